@@ -1,0 +1,3 @@
+pub mod Program
+pub mod Meaning
+pub mod Bounds

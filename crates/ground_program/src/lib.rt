@@ -1,0 +1,12 @@
+//! Ground programs and their meaning: rules, atom sets, answer sets, consequences and bounds.
+#![tactic(auto)]
+
+mod pair;
+mod program;
+
+pub use pair::Pair;
+pub use plain_list::{Copied, List, NoMemory};
+pub use program::{
+    AtomLit, Atoms, Bits, Body, Broken, Kind, Mode, Name, Named, Names, Pairs, Program, Rule,
+    Rules, Set, Sets, Weighted,
+};
