@@ -1,3 +1,4 @@
 pub mod Program
 pub mod Meaning
 pub mod Bounds
+pub mod Models

@@ -1,9 +1,11 @@
 //! Ground programs and their meaning: rules, atom sets, answer sets, consequences and bounds.
 #![tactic(auto)]
 
+mod meaning;
 mod pair;
 mod program;
 
+pub use meaning::{holds_in, is_model};
 pub use pair::Pair;
 pub use plain_list::{Copied, List, NoMemory};
 pub use program::{
