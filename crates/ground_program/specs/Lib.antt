@@ -2,3 +2,4 @@ pub mod Program
 pub mod Meaning
 pub mod Bounds
 pub mod Models
+pub mod Validity

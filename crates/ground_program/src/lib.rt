@@ -4,6 +4,7 @@
 mod meaning;
 mod pair;
 mod program;
+mod validity;
 
 pub use meaning::{holds_in, is_model};
 pub use pair::Pair;
@@ -12,3 +13,4 @@ pub use program::{
     AtomLit, Atoms, Bits, Body, Broken, Kind, Mode, Name, Named, Names, Pairs, Program, Rule,
     Rules, Set, Sets, Weighted,
 };
+pub use validity::is_valid;
