@@ -1,5 +1,5 @@
 -- What the first broken rule and the first unmet atom say of the whole lists.
-use Rattle.std.proofs.Common.{◌≡◌, ◌<◌, ◌≤◌, ◌⊎◌, inl, inr, ℕ, Bool, true, false, not, cond, List, [], ◌∷◌, length, get_or, All, Option, Some, None, MatchOption, arith, refl, sym, ◌∙◌, true≢false}
+use Rattle.std.proofs.Common.{◌≡◌, inl, inr, ℕ, Bool, true, false, not, cond, List, [], ◌∷◌, All, Option, Some, None, MatchOption, arith, refl, sym, ◌∙◌, true≢false}
 use Rattle.std.specs.List.{find}
 use Rattle.std.proofs.lemmas.List.Elements.{All-nil, All-cons, All-tail}
 use Rattle.ground_program.specs.declared.program.Kind.TheVariants.{Basic}
@@ -70,8 +70,8 @@ failing-breaks set rules at first keeps = first.fails some_rule (keeps at some_r
 
 -- with no atom missing, the first present one decides
 pub present-decides : (program : Program) (set : List Bool) (first : Option ℕ)
-  → find (λ each. not (has set each)) program.must ≡ None → first ≡ find (has set) program.must_not
-  → MatchOption first (MeetsCompute program set) (IsFirstUnmet program set)
+    → find (λ each. not (has set each)) program.must ≡ None → first ≡ find (has set) program.must_not
+    → MatchOption first (MeetsCompute program set) (IsFirstUnmet program set)
 present-decides program set None all first = record {
   must = missing-none set program.must all;
   must_not = present-none set program.must_not (sym first);

@@ -1,5 +1,5 @@
 -- Lists of atoms, the greatest of them, and the order of literals.
-use Rattle.std.proofs.Common.{◌≡◌, ◌<◌, ◌≤◌, ◌+◌, ℕ, Bool, true, false, List, [], ◌∷◌, ◌++◌, length, get_or, take, All, AllPairs, IsTrue, max, map, flat_map, arith, refl, sym, ap, ◌∙◌, subst, length-append}
+use Rattle.std.proofs.Common.{◌≡◌, ◌<◌, ◌≤◌, ◌+◌, ℕ, false, List, [], ◌∷◌, ◌++◌, length, get_or, take, All, IsTrue, max, map, flat_map, arith, refl, sym, ap, ◌∙◌, subst}
 use Rattle.std.specs.Prelude.{◌↔◌}
 use Rattle.std.specs.Ordering.{ord_max, nat_cmp}
 use Rattle.std.proofs.lemmas.Bool.Decides.{nat_tests}
@@ -20,27 +20,27 @@ greatest-append (x ∷ xs) ys = let rest = greatest-append xs ys in omega arith
 
 -- the greatest so far, with one more item
 next-of : {X : Type 0} (F : List X → ℕ) (f : X → ℕ) → F [] ≡ 0 → ((x : X) (xs : List X) → F (x ∷ xs) ≡ max (f x) (F xs))
-  → (xs : List X) (i : ℕ) (d : X) → i < length xs → F (take (i + 1) xs) ≡ max (F (take i xs)) (f (get_or xs i d))
+    → (xs : List X) (i : ℕ) (d : X) → i < length xs → F (take (i + 1) xs) ≡ max (F (take i xs)) (f (get_or xs i d))
 next-of F f none step xs i d below = ap F (take_more xs i d below) ∙ max_push F f none step (take i xs) (get_or xs i d)
 
 pub next-number : (xs : List ℕ) (i : ℕ) (d : ℕ) → i < length xs
-  → greatest (take (i + 1) xs) ≡ max (greatest (take i xs)) (get_or xs i d)
+    → greatest (take (i + 1) xs) ≡ max (greatest (take i xs)) (get_or xs i d)
 next-number = next-of greatest (λ x. x) refl (λ _ _. refl)
 
 pub next-part : (body : List Weighted) (i : ℕ) (d : Weighted) → i < length body
-  → greatest (atoms_of_body (take (i + 1) body)) ≡ max (greatest (atoms_of_body (take i body))) (get_or body i d).lit.atom
+    → greatest (atoms_of_body (take (i + 1) body)) ≡ max (greatest (atoms_of_body (take i body))) (get_or body i d).lit.atom
 next-part = next-of (λ xs. greatest (atoms_of_body xs)) (λ part. part.lit.atom) refl (λ _ _. refl)
 
 pub next-named : (names : List Named) (i : ℕ) (d : Named) → i < length names
-  → greatest (atoms_of_names (take (i + 1) names)) ≡ max (greatest (atoms_of_names (take i names))) (get_or names i d).atom
+    → greatest (atoms_of_names (take (i + 1) names)) ≡ max (greatest (atoms_of_names (take i names))) (get_or names i d).atom
 next-named = next-of (λ xs. greatest (atoms_of_names xs)) (λ named. named.atom) refl (λ _ _. refl)
 
 pub next-rule : (rules : List Rule) (i : ℕ) (d : Rule) → i < length rules
-  → greatest (flat_map atoms_of_rule (take (i + 1) rules))
+    → greatest (flat_map atoms_of_rule (take (i + 1) rules))
     ≡ max (greatest (flat_map atoms_of_rule (take i rules))) (greatest (atoms_of_rule (get_or rules i d)))
 next-rule =
     next-of (λ xs. greatest (flat_map atoms_of_rule xs)) (λ rule. greatest (atoms_of_rule rule)) refl
-      (λ rule rules. greatest-append (atoms_of_rule rule) (flat_map atoms_of_rule rules))
+    (λ rule rules. greatest-append (atoms_of_rule rule) (flat_map atoms_of_rule rules))
 
 -- what holds of each item of two lists in a row holds of each item of either
 all-left : {X : Type 0} (P : X → Type 0) (xs ys : List X) → All P (xs ++ ys) → All P xs
@@ -74,13 +74,13 @@ rules-atoms : (rules : List Rule) → All RuleAtoms rules → All IsAtom (flat_m
 rules-atoms [] all = All-nil IsAtom
 rules-atoms (rule ∷ rules) all =
     All-append IsAtom (atoms_of_rule rule) (flat_map atoms_of_rule rules)
-      (rule-atoms rule (All-head RuleAtoms rule rules all)) (rules-atoms rules (All-tail RuleAtoms rule rules all))
+    (rule-atoms rule (All-head RuleAtoms rule rules all)) (rules-atoms rules (All-tail RuleAtoms rule rules all))
 
 atoms-rules : (rules : List Rule) → All IsAtom (flat_map atoms_of_rule rules) → All RuleAtoms rules
 atoms-rules [] all = All-nil RuleAtoms
 atoms-rules (rule ∷ rules) all =
     All-cons RuleAtoms rule rules (atoms-rule rule (all-left IsAtom (atoms_of_rule rule) (flat_map atoms_of_rule rules) all))
-      (atoms-rules rules (all-right IsAtom (atoms_of_rule rule) (flat_map atoms_of_rule rules) all))
+    (atoms-rules rules (all-right IsAtom (atoms_of_rule rule) (flat_map atoms_of_rule rules) all))
 
 atom-is : (atom : ℕ) → IsAtom atom → (1 ≤ atom) × IsNumber atom
 atom-is atom is = (is.first, is.number)
@@ -177,7 +177,7 @@ IsNegative part = IsTrue part.lit.negated
 
 -- before a negative literal all are negative
 pub front-negative : (body : List Weighted) (i : ℕ) (d : Weighted) → i < length body
-  → NegativesFirst body → IsNegative (get_or body i d) → All IsNegative (take i body)
+    → NegativesFirst body → IsNegative (get_or body i d) → All IsNegative (take i body)
 front-negative body i d below order negative k e inside =
     let within : k < i = omega (arith, inside, length-take-le i body (omega arith)) in
     let here : IsNegative (get_or body i e) = subst IsNegative (get_or_default body i d e below) negative in
@@ -185,20 +185,20 @@ front-negative body i d below order negative k e inside =
 
 -- one more literal in order
 pub order-more : (body : List Weighted) (i : ℕ) (d : Weighted) → i < length body
-  → NegativesFirst (take i body) → (IsNegative (get_or body i d) → All IsNegative (take i body))
-  → NegativesFirst (take (i + 1) body)
+    → NegativesFirst (take i body) → (IsNegative (get_or body i d) → All IsNegative (take i body))
+    → NegativesFirst (take (i + 1) body)
 order-more body i d below order front =
     subst NegativesFirst (sym (take_more body i d below))
-      (all_pairs_push (λ earlier later. IsNegative later → IsNegative earlier) (take i body) (get_or body i d) order
-        (λ k e inside negative. front negative k e inside))
+    (all_pairs_push (λ earlier later. IsNegative later → IsNegative earlier) (take i body) (get_or body i d) order
+    (λ k e inside negative. front negative k e inside))
 
 -- one more literal is negative exactly where all so far are, given that those before it are where it is
 pub flag-more : (body : List Weighted) (i : ℕ) (d : Weighted) → i < length body
-  → (IsNegative (get_or body i d) → All IsNegative (take i body))
-  → (IsNegative (get_or body i d) ↔ All IsNegative (take (i + 1) body))
-flag-more body i d below front =
-    ( λ negative. All-more IsNegative body i d below (front negative) negative
-    , λ all.
-        let inside : i < length (take (i + 1) body) = omega (arith, length-take-le (i + 1) body (omega arith)) in
-        subst IsNegative (get_or-take (i + 1) body i d (omega arith)) (all i d inside)
-    )
+    → (IsNegative (get_or body i d) → All IsNegative (take i body))
+    → (IsNegative (get_or body i d) ↔ All IsNegative (take (i + 1) body))
+flag-more body i d below front = (
+  λ negative. All-more IsNegative body i d below (front negative) negative,
+  λ all.
+      let inside : i < length (take (i + 1) body) = omega (arith, length-take-le (i + 1) body (omega arith)) in
+      subst IsNegative (get_or-take (i + 1) body i d (omega arith)) (all i d inside),
+)

@@ -4,7 +4,7 @@ use Rattle.ground_program.specs.declared.program.Rule.{Rule}
 use Rattle.ground_program.specs.declared.program.Weighted.{Weighted}
 use Rattle.ground_program.specs.declared.program.Named.{Named}
 use Rattle.ground_program.specs.declared.program.Program.{Program}
-use Rattle.ground_program.specs.Program.{IsNumber, IsName, IsRule, HeadsFit, BoundFits, WeightFits, NegativesFirst, greatest, atoms_of}
+use Rattle.ground_program.specs.Program.{IsNumber, IsName, IsRule, HeadsFit, BoundFits, WeightFits, greatest, atoms_of}
 
 -- an atom of the format: at least 1, and a number
 pub record IsAtom (atom : ℕ) : Type 0 where
@@ -64,4 +64,3 @@ pub record RuleNumbers (rule : Rule) : Type 0 where
   pub bound_number : IsNumber rule.bound
   pub few_heads : IsNumber (length rule.heads)
   pub few_literals : IsNumber (length rule.body)
-

@@ -96,7 +96,9 @@ fn head_holds(kind: Kind, heads: &[u32], by: &[bool], set: &[bool]) -> bool
         Kind::Basic | Kind::Constraint | Kind::Weight => {
             heads.iter().all(|atom| has_atom(set, *atom))
         }
-        Kind::Choice => heads.iter().all(|atom| !has_atom(by, *atom) || has_atom(set, *atom)),
+        Kind::Choice => heads
+            .iter()
+            .all(|atom| !has_atom(by, *atom) || has_atom(set, *atom)),
         Kind::Disjunctive => heads.iter().any(|atom| has_atom(set, *atom)),
     }
 }

@@ -151,7 +151,11 @@ fn has_atoms(rule: &Rule) -> bool
     ensures { IsTrue result ↔ RuleAtoms rule.now }
 {
     are_atoms(rule.heads.as_slice())
-        && rule.body.as_slice().iter().all(|part| is_atom(part.lit.atom))
+        && rule
+            .body
+            .as_slice()
+            .iter()
+            .all(|part| is_atom(part.lit.atom))
 }
 
 fn are_atoms(numbers: &[u32]) -> bool

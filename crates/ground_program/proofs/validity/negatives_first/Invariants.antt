@@ -1,6 +1,5 @@
-use Rattle.std.proofs.Common.{◌≡◌, ◌<◌, ℕ, take, All, true, false, get_or}
+use Rattle.std.proofs.Common.{take, All}
 use Rattle.std.specs.Prelude.{◌↔◌, IsTrue}
-use Rattle.ground_program.specs.declared.program.Weighted.{Weighted}
 use Rattle.ground_program.specs.Program.{NegativesFirst}
 use Rattle.ground_program.proofs.validity.negatives_first.Given as goal
 
