@@ -5,6 +5,8 @@ mod laws;
 mod meaning;
 mod pair;
 mod program;
+#[cfg(test)]
+mod tests;
 mod validity;
 
 pub use laws::{
