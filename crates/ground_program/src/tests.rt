@@ -144,65 +144,93 @@ fn set_of(alloc: Global, last: u32, atoms: &[u32]) -> Result<Set, NoMemory> {
     Ok(set)
 }
 
-/// Whether all rules of the reduct by `by` hold in `set`.
-fn all_hold(program: &Program, by: &Set, set: &Set) -> bool {
-    program
-        .rules
-        .as_slice()
-        .iter()
-        .all(|rule| holds_in(rule, by, set))
+/// The four programs above, by a number.
+fn program_at(alloc: Global, which: u8) -> Result<Program, NoMemory> {
+    match which {
+        0 => one_of_two(alloc),
+        1 => circle(alloc),
+        2 => either(alloc),
+        _ => any_of_two(alloc),
+    }
+}
+
+/// What the set of these atoms breaks first, where atom `must` is asked for.
+fn breach_of(
+    alloc: Global,
+    which: u8,
+    must: &[u32],
+    atoms: &[u32],
+) -> Result<Result<(), Broken>, NoMemory> {
+    let mut program = program_at(alloc, which)?;
+    program.must = atoms_of(alloc, must)?;
+    let set = set_of(alloc, program.atoms, atoms)?;
+    if !is_valid(&program) || set.len() as u64 != program.atoms as u64 + 1 {
+        return Ok(Err(Broken::Rule(99)));
+    }
+    Ok(is_model(&program, &set))
+}
+
+/// Whether all rules of the reduct by `by` hold in the set of these atoms.
+fn all_hold(alloc: Global, which: u8, by: &[u32], atoms: &[u32]) -> Result<bool, NoMemory> {
+    let program = program_at(alloc, which)?;
+    let by = set_of(alloc, program.atoms, by)?;
+    let set = set_of(alloc, program.atoms, atoms)?;
+    for rule in program.rules.as_slice() {
+        if !holds_in(rule, &by, &set) {
+            return Ok(false);
+        }
+    }
+    Ok(true)
+}
+
+/// Whether a program with this rule besides is one of the format.
+fn fits(
+    alloc: Global,
+    kind: Kind,
+    heads: &[u32],
+    bound: u32,
+    weight: u32,
+) -> Result<bool, NoMemory> {
+    let mut program = either(alloc)?;
+    let rule = rule_of(alloc, kind, heads, bound, &[], &[(3, weight)])?;
+    program.rules.push(alloc, rule)?;
+    Ok(is_valid(&program))
+}
+
+/// Whether a program with this name besides is one of the format.
+fn name_fits(alloc: Global, letters: &[u8]) -> Result<bool, NoMemory> {
+    let mut program = either(alloc)?;
+    let name = name_of(alloc, letters)?;
+    program.names.push(alloc, Named { atom: 3, name })?;
+    Ok(is_valid(&program))
 }
 
 #[test]
-fn a_model_keeps_its_rules_and_the_first_breach_is_told(rt: HostRuntime) -> Result<(), Fail> {
-    let alloc = rt.alloc();
-    let one_of_two = one_of_two(alloc)?;
-    let circle = circle(alloc)?;
-    let either = either(alloc)?;
-    let mut any_of_two = any_of_two(alloc)?;
-    any_of_two.must.push(alloc, 3)?;
-    let programs = [&one_of_two, &circle, &either, &any_of_two];
-    let cases: [(usize, &[u32], Result<(), Broken>); 17] = [
-        (0, &[2, 4], Ok(())),
-        (0, &[3, 4], Ok(())),
-        (0, &[2, 3, 4], Ok(())),
-        (0, &[], Err(Broken::Rule(0))),
-        (0, &[2], Err(Broken::Rule(2))),
-        (0, &[1, 3, 4], Err(Broken::Compute(1))),
-        (1, &[], Ok(())),
-        (1, &[2, 3], Ok(())),
-        (1, &[2], Err(Broken::Rule(1))),
-        (1, &[3], Err(Broken::Rule(0))),
-        (2, &[2], Ok(())),
-        (2, &[3], Ok(())),
-        (2, &[], Err(Broken::Rule(0))),
-        (3, &[3], Ok(())),
-        (3, &[2, 3, 4], Ok(())),
-        (3, &[2, 3], Err(Broken::Rule(1))),
-        (3, &[1, 2], Err(Broken::Compute(3))),
+fn the_first_breach_is_told(rt: HostRuntime) -> Result<(), Fail> {
+    let cases: [(u8, &[u32], &[u32], Result<(), Broken>); 12] = [
+        (0, &[], &[2, 4], Ok(())),
+        (0, &[], &[2, 3, 4], Ok(())),
+        (0, &[], &[], Err(Broken::Rule(0))),
+        (0, &[], &[2], Err(Broken::Rule(2))),
+        (0, &[], &[1, 3, 4], Err(Broken::Compute(1))),
+        (1, &[], &[2, 3], Ok(())),
+        (1, &[], &[2], Err(Broken::Rule(1))),
+        (2, &[], &[3], Ok(())),
+        (2, &[], &[], Err(Broken::Rule(0))),
+        (3, &[], &[], Ok(())),
+        (3, &[], &[2, 3], Err(Broken::Rule(1))),
+        (3, &[3], &[1, 2], Err(Broken::Compute(3))),
     ];
-    for (which, atoms, want) in cases {
-        let program = programs[which % 4];
-        let set = set_of(alloc, program.atoms, atoms)?;
-        assert!(rt; is_valid(program), "program {which}");
-        assert!(rt; set.len() == program.atoms as usize + 1);
-        assert!(rt;
-            is_model(program, &set) == want,
-            "program {which} at {atoms:?}"
-        );
+    for (which, must, atoms, want) in cases {
+        let breach = breach_of(rt.alloc(), which, must, atoms)?;
+        assert!(rt; breach == want, "program {which} at {atoms:?}");
     }
     Ok(())
 }
 
 #[test]
 fn a_reduct_goes_by_one_set_and_is_kept_by_another(rt: HostRuntime) -> Result<(), Fail> {
-    let alloc = rt.alloc();
-    let one_of_two = one_of_two(alloc)?;
-    let circle = circle(alloc)?;
-    let either = either(alloc)?;
-    let any_of_two = any_of_two(alloc)?;
-    let programs = [&one_of_two, &circle, &either, &any_of_two];
-    let cases: [(usize, &[u32], &[u32], bool); 9] = [
+    let cases: [(u8, &[u32], &[u32], bool); 9] = [
         (0, &[2, 4], &[2], false),
         (0, &[2, 4], &[4], false),
         (0, &[2, 3, 4], &[], true),
@@ -214,78 +242,75 @@ fn a_reduct_goes_by_one_set_and_is_kept_by_another(rt: HostRuntime) -> Result<()
         (3, &[2, 3, 4], &[2, 3], false),
     ];
     for (which, by, atoms, want) in cases {
-        let program = programs[which % 4];
-        let by = set_of(alloc, program.atoms, by)?;
-        let set = set_of(alloc, program.atoms, atoms)?;
-        assert_eq!(rt;
-            all_hold(program, &by, &set),
-            want,
-            "program {which} at {atoms:?}"
-        );
+        let kept = all_hold(rt.alloc(), which, by, atoms)?;
+        assert!(rt; kept == want, "program {which} at {atoms:?}");
     }
     Ok(())
 }
 
 #[test]
 fn what_the_format_cannot_write_is_no_program(rt: HostRuntime) -> Result<(), Fail> {
-    let alloc = rt.alloc();
-    let names: [&[u8]; 4] = [b"", b"a\n", b"a\r", b"\ra"];
-    for name in names {
-        let mut program = either(alloc)?;
-        program.names.push(
-            alloc,
-            Named {
-                atom: 3,
-                name: name_of(alloc, name)?,
-            },
-        )?;
-        assert_eq!(rt; is_valid(&program), name == b"\ra".as_slice(), "{name:?}");
-    }
-    let rules = [
-        (rule_of(alloc, Kind::Basic, &[2], 1, &[], &[(3, 1)])?, true),
-        (rule_of(alloc, Kind::Basic, &[2], 0, &[], &[(3, 1)])?, false),
-        (rule_of(alloc, Kind::Basic, &[2], 1, &[], &[(3, 2)])?, false),
-        (rule_of(alloc, Kind::Basic, &[2, 3], 0, &[], &[])?, false),
-        (rule_of(alloc, Kind::Basic, &[0], 0, &[], &[])?, false),
-        (rule_of(alloc, Kind::Basic, &[4], 0, &[], &[])?, false),
-        (rule_of(alloc, Kind::Choice, &[], 0, &[], &[])?, true),
-        (
-            rule_of(alloc, Kind::Constraint, &[2], 9, &[], &[(3, 1)])?,
-            true,
-        ),
-        (
-            rule_of(alloc, Kind::Weight, &[2], 9, &[], &[(3, 2147483647)])?,
-            true,
-        ),
-        (
-            rule_of(alloc, Kind::Weight, &[2], 9, &[], &[(3, 2147483648)])?,
-            false,
-        ),
+    let rules: [(Kind, &[u32], u32, u32, bool); 9] = [
+        (Kind::Basic, &[2], 1, 1, true),
+        (Kind::Basic, &[2], 0, 1, false),
+        (Kind::Basic, &[2], 1, 2, false),
+        (Kind::Basic, &[2, 3], 1, 1, false),
+        (Kind::Basic, &[0], 1, 1, false),
+        (Kind::Choice, &[], 1, 1, true),
+        (Kind::Constraint, &[2], 9, 1, true),
+        (Kind::Weight, &[2], 9, 2147483647, true),
+        (Kind::Weight, &[2], 9, 2147483648, false),
     ];
-    for (rule, want) in rules {
-        let mut program = either(alloc)?;
-        program.rules.push(alloc, rule)?;
-        assert_eq!(rt; is_valid(&program), want);
+    for (kind, heads, bound, weight, want) in rules {
+        let is_one = fits(rt.alloc(), kind, heads, bound, weight)?;
+        assert!(rt; is_one == want, "{kind:?} {heads:?}");
+    }
+    let names: [(&[u8], bool); 4] = [
+        (b"", false),
+        (b"a\n", false),
+        (b"a\r", false),
+        (b"\ra", true),
+    ];
+    for (name, want) in names {
+        let is_one = name_fits(rt.alloc(), name)?;
+        assert!(rt; is_one == want, "{name:?}");
     }
     Ok(())
+}
+
+/// The lengths of copies of the lists of a program, in order.
+fn copied_lengths(alloc: Global, program: &Program) -> Result<[usize; 3], NoMemory> {
+    let rules = program.rules.copy(alloc)?;
+    let names = program.names.copy(alloc)?;
+    let must_not = program.must_not.copy(alloc)?;
+    Ok([rules.len(), names.len(), must_not.len()])
+}
+
+/// The lengths of a list of sets and of a list of pairs, each of which has one item.
+fn single_lengths(alloc: Global) -> Result<[usize; 2], NoMemory> {
+    let mut sets = Sets::open();
+    sets.push(alloc, set_of(alloc, 3, &[2])?)?;
+    let mut pairs = Pairs::open();
+    pairs.push(alloc, Pair::open(alloc, 3)?)?;
+    let again = sets.copy(alloc)?;
+    let pairs_again = pairs.copy(alloc)?;
+    Ok([again.len(), pairs_again.len()])
 }
 
 #[test]
 fn lists_and_pairs_are_made_again(rt: HostRuntime) -> Result<(), Fail> {
     let alloc = rt.alloc();
     let program = any_of_two(alloc)?;
-    assert_eq!(rt; program.rules.copy(alloc)?.len(), 2);
-    assert_eq!(rt; program.names.copy(alloc)?.len(), 3);
-    assert_eq!(rt; program.must_not.copy(alloc)?.as_slice(), [1].as_slice());
-    let mut sets = Sets::open();
-    sets.push(alloc, set_of(alloc, 3, &[2])?)?;
-    assert_eq!(rt; sets.copy(alloc)?.len(), 1);
+    assert!(rt; copied_lengths(alloc, &program)? == [2, 3, 1]);
+    assert!(rt; single_lengths(alloc)? == [1, 1]);
     let mut pair = Pair::open(alloc, 3)?;
     assert!(rt; pair.lower.len() == 3 && pair.upper.len() == 3);
     pair.lower.set(1, true);
-    assert_eq!(rt; (pair.lower_len(), pair.upper_len()), (1, 3));
-    let mut pairs = Pairs::open();
-    pairs.push(alloc, pair)?;
-    assert_eq!(rt; pairs.copy(alloc)?.len(), 1);
+    assert!(rt; pair.lower_len() == 1 && pair.upper_len() == 3);
+    let mut atoms = atoms_of(alloc, &[7, 8])?;
+    assert!(rt; atoms.len() == 2);
+    assert!(rt; *atoms.get(1) == 8);
+    atoms.clear();
+    assert!(rt; atoms.len() == 0);
     Ok(())
 }
