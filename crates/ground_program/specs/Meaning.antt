@@ -1,14 +1,11 @@
 -- What a program means: its answer sets and consequences, after Gelfond and Lifschitz, with weights and
 -- choices after Simons, Niemelä and Soininen. An atom set has a truth value for each position from 0.
-use Rattle.std.specs.Prelude.{◌≡◌, ◌≢◌, ◌≤◌, ◌<◌, ◌+◌, ◌-◌, ℕ, Bool, true, false, not, if◌then◌else◌, List, length, All, Any, Some, slice_get, slice_index_or, sum_by, IsTrue}
-use Rattle.ground_program.specs.declared.program.Mode.{Mode}
-use Rattle.ground_program.specs.declared.program.Mode.TheVariants.{Cautious, Brave}
+use Rattle.std.specs.Prelude.{◌≡◌, ◌≢◌, ◌≤◌, ◌+◌, ℕ, Bool, false, not, if◌then◌else◌, List, length, All, Any, Some, slice_get, slice_index_or, sum_by, IsTrue}
 use Rattle.ground_program.specs.declared.program.Kind.{Kind}
 use Rattle.ground_program.specs.declared.program.Kind.TheVariants.{Basic, Constraint, Choice, Weight, Disjunctive}
 use Rattle.ground_program.specs.declared.program.AtomLit.{AtomLit}
 use Rattle.ground_program.specs.declared.program.Weighted.{Weighted}
 use Rattle.ground_program.specs.declared.program.Rule.{Rule}
-use Rattle.ground_program.specs.declared.program.Named.{Named}
 use Rattle.ground_program.specs.declared.program.Program.{Program}
 
 -- whether the atom is in the set
@@ -73,3 +70,11 @@ pub record IsAnswerSet (program : Program) (set : List Bool) : Type 0 where
   pub compute : MeetsCompute program set
   pub keeps : KeepsAll set set program.rules
   pub least : (smaller : List Bool) → IsProperSubset smaller set → SomeFails set smaller program.rules
+
+-- each atom of one set is in the other
+abbrev pub IsPart : List Bool → List Bool → Type 0
+IsPart part whole = (atom : ℕ) → IsIn part atom → IsIn whole atom
+
+-- no rule is a choice rule
+abbrev pub HasNoChoice : List Rule → Type 0
+HasNoChoice rules = All (λ rule. rule.kind ≢ Choice) rules

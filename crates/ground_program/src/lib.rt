@@ -1,12 +1,23 @@
 //! Ground programs and their meaning: rules, atom sets, answer sets, consequences and bounds.
 #![tactic(auto)]
 
+mod laws;
+mod meaning;
 mod pair;
 mod program;
+#[cfg(test)]
+mod tests;
+mod validity;
 
+pub use laws::{
+    answer_sets_are_least, opening_pair_encloses, some_rule_fails, within_is_reflexive,
+    within_is_transitive,
+};
+pub use meaning::{holds_in, is_model};
 pub use pair::Pair;
 pub use plain_list::{Copied, List, NoMemory};
 pub use program::{
     AtomLit, Atoms, Bits, Body, Broken, Kind, Mode, Name, Named, Names, Pairs, Program, Rule,
     Rules, Set, Sets, Weighted,
 };
+pub use validity::is_valid;

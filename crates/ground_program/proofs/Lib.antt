@@ -1,0 +1,4 @@
+pub mod ModelLemmas
+pub mod ValidityLemmas
+pub mod MeaningLemmas
+pub mod BoundsLemmas
