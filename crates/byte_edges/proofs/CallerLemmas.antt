@@ -1,0 +1,70 @@
+-- What callers need of the words on sources and sinks: writes in turn make one write.
+use Rattle.std.proofs.Common.{◌≡◌, ◌≤◌, ◌+◌, ◌++◌, ℕ, List, [], Option, Some, None, Ok, Err, length, take, min, refl, sym, ◌∙◌, ap, subst, arith, append_assoc}
+use Rattle.std.specs.Prelude.{Result}
+use Rattle.std.proofs.lemmas.List.{append-nil, take-append-le, take_all, take_min, take_at}
+use Rattle.std.proofs.Math.Seq.{take-append-add}
+use Rattle.std.proofs.lemmas.Result.{on_ok_weaker, on_err_weaker}
+use Rattle.byte_edges.specs.Faults.{Rose}
+use Rattle.byte_edges.specs.Edges.{Appended, AppendedPrefix, Writes}
+
+-- a rise shows at each later count
+pub rose_later : (before now later : ℕ) → Rose before now → now ≤ later → Rose before later
+rose_later before now later rose more = omega arith
+
+-- a rise from a later count is one from an earlier count
+pub rose_earlier : (earlier before now : ℕ) → earlier ≤ before → Rose before now → Rose earlier now
+rose_earlier earlier before now more rose = omega arith
+
+-- nothing was appended
+pub appended_none : (old : Option (List ℕ)) → Appended old old []
+appended_none None = record { told = tt }
+appended_none (Some before) = record { told = sym (append-nil before) }
+
+-- bytes that were appended in turn were appended as one list
+pub appended_then : (old mid new : Option (List ℕ)) (first second : List ℕ) → Appended old mid first → Appended mid new second → Appended old new (first ++ second)
+appended_then old mid None first second one two = record { told = tt }
+appended_then old None (Some now) first second one two = absurd two.told
+appended_then None (Some between) (Some now) first second one two = absurd one.told
+appended_then (Some before) (Some between) (Some now) first second one two =
+    record { told = two.told ∙ ap (λ bytes. bytes ++ second) one.told ∙ append_assoc before first second }
+
+-- bytes and then a prefix of more are a prefix of both
+pub prefix_then : (old mid new : Option (List ℕ)) (first second : List ℕ) → Appended old mid first → AppendedPrefix mid new second → AppendedPrefix old new (first ++ second)
+prefix_then old mid new first second one two =
+    (length first + two.0,
+     rw take-append-add (appended_then old mid new first (take two.0 second) one two.1))
+
+-- a prefix of a list's front is a prefix of the list
+pub prefix_longer : (old new : Option (List ℕ)) (front rest : List ℕ) → AppendedPrefix old new front → AppendedPrefix old new (front ++ rest)
+prefix_longer old new front rest prefix =
+    let n : ℕ = min prefix.0 (length front) in
+    let same : take n (front ++ rest) ≡ take prefix.0 front = take-append-le n front rest (omega arith) ∙ take_min prefix.0 front in
+    (n, rw same prefix.1)
+
+module _ {K : Type 0} (written : K → Option (List ℕ)) (faults : K → ℕ) where
+  -- nothing was written
+  pub writes_none : {T E : Type 0} (sink : K) (value : T) → Writes {E = E} written faults sink sink [] (Ok value)
+  writes_none sink value = record {
+      all = appended_none (written sink);
+      prefix = (0, appended_none (written sink));
+      cause = tt;
+      count = omega arith;
+    }
+
+  -- bytes were written, and then others
+  pub writes_then : {T U E F : Type 0} (old mid new : K) (first second : List ℕ) (value : T) (result : Result U F) → Writes {E = E} written faults old mid first (Ok value) → Writes written faults mid new second result → Writes written faults old new (first ++ second) result
+  writes_then old mid new first second value result one two = record {
+      all = on_ok_weaker result (appended_then (written old) (written mid) (written new) first second one.all) two.all;
+      prefix = prefix_then (written old) (written mid) (written new) first second one.all two.prefix;
+      cause = on_err_weaker result (rose_earlier (faults old) (faults mid) (faults new) one.count) two.cause;
+      count = omega arith;
+    }
+
+  -- a write failed, and the bytes after it weren't tried
+  pub writes_fault : {T U E F : Type 0} (old new : K) (front rest : List ℕ) (error : E) (other : F) → Writes {T = T} written faults old new front (Err error) → Writes {T = U} written faults old new (front ++ rest) (Err other)
+  writes_fault old new front rest error other one = record {
+      all = tt;
+      prefix = prefix_longer (written old) (written new) front rest one.prefix;
+      cause = one.cause;
+      count = one.count;
+    }
