@@ -1,7 +1,7 @@
 -- What callers need of the words on sources and sinks: writes in turn make one write.
-use Rattle.std.proofs.Common.{◌≡◌, ◌≤◌, ◌+◌, ◌++◌, ℕ, List, [], Option, Some, None, Ok, Err, length, take, min, refl, sym, ◌∙◌, ap, subst, arith, append_assoc}
-use Rattle.std.specs.Prelude.{Result}
-use Rattle.std.proofs.lemmas.List.{append-nil, take-append-le, take_all, take_min, take_at}
+use Rattle.std.proofs.Common.{◌≡◌, ◌≤◌, ◌+◌, ◌++◌, ℕ, List, [], Option, Some, None, Ok, Err, length, take, min, sym, ◌∙◌, ap, arith, append_assoc}
+use Rattle.std.specs.Prelude.{Result, IsErr}
+use Rattle.std.proofs.lemmas.List.{append-nil, take-append-le, take_min}
 use Rattle.std.proofs.Math.Seq.{take-append-add}
 use Rattle.std.proofs.lemmas.Result.{on_ok_weaker, on_err_weaker}
 use Rattle.byte_edges.specs.Faults.{Rose}
@@ -30,9 +30,10 @@ appended_then (Some before) (Some between) (Some now) first second one two =
 
 -- bytes and then a prefix of more are a prefix of both
 pub prefix_then : (old mid new : Option (List ℕ)) (first second : List ℕ) → Appended old mid first → AppendedPrefix mid new second → AppendedPrefix old new (first ++ second)
-prefix_then old mid new first second one two =
-    (length first + two.0,
-     rw take-append-add (appended_then old mid new first (take two.0 second) one two.1))
+prefix_then old mid new first second one two = (
+  length first + two.0,
+  rw take-append-add (appended_then old mid new first (take two.0 second) one two.1),
+)
 
 -- a prefix of a list's front is a prefix of the list
 pub prefix_longer : (old new : Option (List ℕ)) (front rest : List ℕ) → AppendedPrefix old new front → AppendedPrefix old new (front ++ rest)
@@ -41,30 +42,43 @@ prefix_longer old new front rest prefix =
     let same : take n (front ++ rest) ≡ take prefix.0 front = take-append-le n front rest (omega arith) ∙ take_min prefix.0 front in
     (n, rw same prefix.1)
 
-module _ {K : Type 0} (written : K → Option (List ℕ)) (faults : K → ℕ) where
+module _ {K : Type 0} {written : K → Option (List ℕ)} {faults : K → ℕ} where
   -- nothing was written
-  pub writes_none : {T E : Type 0} (sink : K) (value : T) → Writes {E = E} written faults sink sink [] (Ok value)
-  writes_none sink value = record {
-      all = appended_none (written sink);
-      prefix = (0, appended_none (written sink));
-      cause = tt;
-      count = omega arith;
-    }
+  pub writes_none : {T E : Type 0} {value : T} (sink : K) → Writes {E = E} written faults sink sink [] (Ok value)
+  writes_none sink = record {
+    all = appended_none (written sink);
+    prefix = (0, appended_none (written sink));
+    cause = tt;
+    count = omega arith;
+  }
 
-  -- bytes were written, and then others
-  pub writes_then : {T U E F : Type 0} (old mid new : K) (first second : List ℕ) (value : T) (result : Result U F) → Writes {E = E} written faults old mid first (Ok value) → Writes written faults mid new second result → Writes written faults old new (first ++ second) result
-  writes_then old mid new first second value result one two = record {
-      all = on_ok_weaker result (appended_then (written old) (written mid) (written new) first second one.all) two.all;
-      prefix = prefix_then (written old) (written mid) (written new) first second one.all two.prefix;
-      cause = on_err_weaker result (rose_earlier (faults old) (faults mid) (faults new) one.count) two.cause;
-      count = omega arith;
-    }
+  -- bytes were written, and then others, as far as the second call came
+  pub writes_then : {T U E F : Type 0} {old mid new : K} {first second : List ℕ} {value : T} {result : Result U F} → Writes {E = E} written faults old mid first (Ok value) → Writes written faults mid new second result → Writes written faults old new (first ++ second) result
+  writes_then {old = old} {mid = mid} {new = new} {first = first} {second = second} {result = result} one two = record {
+    all = on_ok_weaker result (appended_then (written old) (written mid) (written new) first second one.all) two.all;
+    prefix = prefix_then (written old) (written mid) (written new) first second one.all two.prefix;
+    cause = on_err_weaker result (rose_earlier (faults old) (faults mid) (faults new) one.count) two.cause;
+    count = omega arith;
+  }
 
-  -- a write failed, and the bytes after it weren't tried
-  pub writes_fault : {T U E F : Type 0} (old new : K) (front rest : List ℕ) (error : E) (other : F) → Writes {T = T} written faults old new front (Err error) → Writes {T = U} written faults old new (front ++ rest) (Err other)
-  writes_fault old new front rest error other one = record {
-      all = tt;
-      prefix = prefix_longer (written old) (written new) front rest one.prefix;
-      cause = one.cause;
-      count = one.count;
-    }
+  -- after a fault the bytes behind weren't tried
+  pub writes_longer : {T E : Type 0} {old new : K} {front : List ℕ} {error : E} (rest : List ℕ) → Writes {T = T} written faults old new front (Err error) → Writes {T = T} written faults old new (front ++ rest) (Err error)
+  writes_longer {old = old} {new = new} {front = front} rest one = record {
+    all = tt;
+    prefix = prefix_longer (written old) (written new) front rest one.prefix;
+    cause = one.cause;
+    count = one.count;
+  }
+
+  -- a fault is handed on, as by `?`
+  pub writes_fault : {T U E F : Type 0} {old new : K} {bytes : List ℕ} {error : E} {result : Result U F} → IsErr result → Writes {T = T} written faults old new bytes (Err error) → Writes written faults old new bytes result
+  writes_fault {result = Ok value} is_err one = cc
+  writes_fault {result = Err other} is_err one = record { all = tt; prefix = one.prefix; cause = one.cause; count = one.count }
+
+  -- the call went well, and its answer doesn't matter
+  pub writes_ok : {T U E F : Type 0} {old new : K} {bytes : List ℕ} {value : T} {other : U} → Writes {E = E} written faults old new bytes (Ok value) → Writes {E = F} written faults old new bytes (Ok other)
+  writes_ok one = record { all = one.all; prefix = one.prefix; cause = tt; count = one.count }
+
+  -- the same bytes, said otherwise
+  pub writes_same : {T E : Type 0} {old new : K} {bytes same : List ℕ} {result : Result T E} → bytes ≡ same → Writes written faults old new bytes result → Writes written faults old new same result
+  writes_same equal one = rw (← equal) one

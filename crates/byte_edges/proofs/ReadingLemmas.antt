@@ -1,5 +1,5 @@
 -- The loop that reads a source to its end: what a source had at first, what it has left, and what came.
-use Rattle.std.proofs.Common.{◌≡◌, ◌≤◌, ◌<◌, ◌+◌, ◌-◌, ◌++◌, ℕ, List, [], Option, Some, None, length, take, drop, arith, IfSome, refl, ap, ◌∙◌, sym}
+use Rattle.std.proofs.Common.{◌≡◌, ◌≤◌, ◌<◌, ◌+◌, ◌++◌, ℕ, List, [], Option, Some, None, length, take, drop, arith, IfSome, refl, ap, ◌∙◌, sym}
 use Rattle.std.proofs.Math.Seq.{take-add}
 use Rattle.std.proofs.lemmas.List.{drop-drop, take_all, nil_from_length, length-drop}
 use Rattle.std.proofs.lemmas.Option.{same_Some, IfSome_then}
@@ -41,7 +41,7 @@ took_on (Some left) (Some rest) new old most limit one two within =
 pub came_too_long : (first now new : Option (List ℕ)) (n : ℕ) (old bytes : List ℕ) (limit : ℕ) → Came first now old → IfSome now (CameBehind n new old bytes) → length bytes ≡ length old + n → length bytes ≡ limit + 1 → IfSome first (λ left. (limit < length left) × (new ≡ Some (drop (limit + 1) left)))
 came_too_long first now new n old bytes limit one two grown long =
     IfSome_then first (came_on first now new n old bytes one two grown) (λ left came.
-      (omega (arith, came.enough), rw (← long) came.rest))
+    (omega (arith, came.enough), rw (← long) came.rest))
 
 ended : (first now new : Option (List ℕ)) (n : ℕ) (old bytes : List ℕ) → Came first now old → IfSome now (CameBehind n new old bytes) → length bytes ≡ length old + n → n ≡ 0 → IfSome now (λ left. left ≡ []) → IfSome first (λ left. (bytes ≡ left) × (new ≡ Some []))
 ended None now new n old bytes one two grown none end = tt
@@ -49,9 +49,10 @@ ended (Some left) None new n old bytes one two grown none end = cc one.rest
 ended (Some left) (Some rest) new n old bytes one two grown none end =
     let is_rest : rest ≡ drop (length old) left = same_Some _ _ one.rest in
     let whole : length left ≤ length bytes = omega (arith, ap length is_rest, ap length end, length-drop (length old) left) in
-    let came : CameBehind (length bytes) new [] bytes left = came_on (Some left) (Some rest) new n old bytes one two grown in
-    (came.list ∙ take_all (length bytes) left whole,
-     came.rest ∙ ap Some (nil_from_length (drop (length bytes) left) (omega (arith, length-drop (length bytes) left))))
+    let came : CameBehind (length bytes) new [] bytes left = came_on (Some left) (Some rest) new n old bytes one two grown in (
+      came.list ∙ take_all (length bytes) left whole,
+      came.rest ∙ ap Some (nil_from_length (drop (length bytes) left) (omega (arith, length-drop (length bytes) left))),
+    )
 
 -- a read that took nothing at the end shows that all came
 pub came_all : (first now new : Option (List ℕ)) (n : ℕ) (old bytes : List ℕ) → Came first now old → IfSome now (CameBehind n new old bytes) → length bytes ≡ length old + n → n ≡ 0 → IfSome now (λ left. left ≡ []) → IfSome first (λ left. bytes ≡ left)

@@ -1,6 +1,5 @@
 -- The loop that writes all bytes: what stands after some of them.
-use Rattle.std.proofs.Common.{◌≡◌, ◌≤◌, ◌+◌, ◌++◌, ℕ, List, [], Option, Some, None, Ok, Err, length, take, drop, arith, IfSome}
-use Rattle.std.specs.Prelude.{Result}
+use Rattle.std.proofs.Common.{◌≡◌, ◌≤◌, ◌+◌, ℕ, List, Option, Ok, Err, length, take, drop, arith}
 use Rattle.std.proofs.lemmas.List.{take_all}
 use Rattle.std.proofs.Math.Seq.{take-add}
 use Rattle.byte_edges.specs.Faults.{Rose}
@@ -19,10 +18,10 @@ module _ {K : Type 0} (written : K → Option (List ℕ)) (faults : K → ℕ) w
 
   pub front_more : (old mid new : K) (bytes : List ℕ) (n more : ℕ) → WroteFront written faults old mid bytes n → Appended (written mid) (written new) (take more (drop n bytes)) → faults mid ≤ faults new → n + more ≤ length bytes → WroteFront written faults old new bytes (n + more)
   front_more old mid new bytes n more one two count within = record {
-      within = within;
-      front = rw take-add (appended_then (written old) (written mid) (written new) (take n bytes) (take more (drop n bytes)) one.front two);
-      count = omega arith;
-    }
+    within = within;
+    front = rw take-add (appended_then (written old) (written mid) (written new) (take n bytes) (take more (drop n bytes)) one.front two);
+    count = omega arith;
+  }
 
   pub front_all : {T E : Type 0} (old new : K) (bytes : List ℕ) (n : ℕ) (value : T) → WroteFront written faults old new bytes n → length bytes ≤ n → Writes {E = E} written faults old new bytes (Ok value)
   front_all old new bytes n value one whole =
@@ -32,8 +31,8 @@ module _ {K : Type 0} (written : K → Option (List ℕ)) (faults : K → ℕ) w
 
   pub front_fault : {T E : Type 0} (old mid new : K) (bytes : List ℕ) (n : ℕ) (error : E) → WroteFront written faults old mid bytes n → written new ≡ written mid → Rose (faults mid) (faults new) → faults mid ≤ faults new → Writes {T = T} written faults old new bytes (Err error)
   front_fault old mid new bytes n error one same rose count = record {
-      all = tt;
-      prefix = (n, rw same one.front);
-      cause = rose_earlier (faults old) (faults mid) (faults new) one.count rose;
-      count = omega arith;
-    }
+    all = tt;
+    prefix = (n, rw same one.front);
+    cause = rose_earlier (faults old) (faults mid) (faults new) one.count rose;
+    count = omega arith;
+  }

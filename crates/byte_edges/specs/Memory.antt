@@ -1,5 +1,5 @@
 -- Sources and sinks in memory, as contracts see them.
-use Rattle.std.specs.Prelude.{◌≡◌, ◌≤◌, ◌<◌, ◌+◌, ◌-◌, ◌^◌, ◌++◌, ◌⊎◌, ℕ, Bool, true, List, Option, Some, None, Result, Ok, Err, length, take, drop, min, Contains, not, ◌&&◌, nat_le, if◌then◌else◌}
+use Rattle.std.specs.Prelude.{◌≤◌, ◌<◌, ◌+◌, ◌-◌, ◌^◌, ◌++◌, ◌⊎◌, ℕ, Bool, true, List, Option, Some, None, Result, Ok, Err, length, take, drop, min, Contains, not, ◌&&◌, nat_le, if◌then◌else◌}
 use Rattle.byte_edges.specs.Faults.{one_more}
 
 -- the call after so many has its number, counted from 1, in the list; past the end of the type no call has a number

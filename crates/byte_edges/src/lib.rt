@@ -9,8 +9,9 @@ mod reading;
 mod schedule;
 mod std_edges;
 mod steady;
-mod writing;
+#[cfg(test)]
 mod tests;
+mod writing;
 
 pub use edges::{Failed, Sink, Source};
 pub use memory_sink::MemorySink;

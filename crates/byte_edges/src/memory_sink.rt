@@ -26,12 +26,12 @@ impl Model for MemorySink {
     ghost Value = { SinkState };
 
     ghost view = { λ sink. record {
-        written = sink.kept.items;
-        room = sink.room;
-        most = sink.most;
-        fails = sink.schedule.fails.items;
-        calls = sink.schedule.calls;
-        faults = sink.schedule.faults;
+      written = sink.kept.items;
+      room = sink.room;
+      most = sink.most;
+      fails = sink.schedule.fails.items;
+      calls = sink.schedule.calls;
+      faults = sink.schedule.faults;
     } };
 
     ghost invariant = { λ sink.

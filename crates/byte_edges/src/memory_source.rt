@@ -25,11 +25,11 @@ impl Model for MemorySource {
     ghost Value = { SourceState };
 
     ghost view = { λ source. record {
-        left = drop source.at source.bytes.items;
-        most = source.most;
-        fails = source.schedule.fails.items;
-        calls = source.schedule.calls;
-        faults = source.schedule.faults;
+      left = drop source.at source.bytes.items;
+      most = source.most;
+      fails = source.schedule.fails.items;
+      calls = source.schedule.calls;
+      faults = source.schedule.faults;
     } };
 
     ghost invariant = { λ source. (source.at ≤ vec_len source.bytes) × (1 ≤ source.most) };

@@ -4,20 +4,20 @@ use Rattle.byte_edges.proofs.reading.read_all.Goals as goal
 
 pub loop-bytes-init : goal.loop-bytes-init
 loop-bytes-init g c = record {
-    block = omega arith;
-    within = omega (arith, ap length c.new-bytes.ensures.items);
-    came = came_none (g.S.Source.left c.args.source.now) c.new-bytes.result.items c.new-bytes.ensures.items;
-    count = omega arith;
-  }
+  block = omega arith;
+  within = omega (arith, ap length c.new-bytes.ensures.items);
+  came = came_none (g.S.Source.left c.args.source.now) c.new-bytes.result.items c.new-bytes.ensures.items;
+  count = omega arith;
+}
 
 pub loop-bytes-preserved : goal.loop-bytes-preserved
 loop-bytes-preserved g c = record {
-    block = omega arith;
-    within = omega (arith, c.read_some.new.bytes.ok.0);
-    came = came_on _ (g.S.Source.left c.loop-bytes.source) _ c.in_ok-read_some.field-0 c.loop-bytes.bytes.items _
-        c.loop-bytes.invariant.came c.in_ok-read_some.ensures.came c.in_ok-read_some.ensures.grown;
-    count = omega arith;
-  }
+  block = omega arith;
+  within = omega (arith, c.read_some.new.bytes.ok.0);
+  came = came_on _ (g.S.Source.left c.loop-bytes.source) _ c.in_ok-read_some.field-0 c.loop-bytes.bytes.items _
+      c.loop-bytes.invariant.came c.in_ok-read_some.ensures.came c.in_ok-read_some.ensures.grown;
+  count = omega arith;
+}
 
 pub returns-in_err-read_some-clause-taken : goal.returns-in_err-read_some-clause-taken
 returns-in_err-read_some-clause-taken g c =
