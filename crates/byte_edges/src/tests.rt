@@ -1,10 +1,11 @@
-ghost use Rattle.std.specs.Prelude.{◌++◌};
+ghost use Rattle.std.specs.Prelude.{◌≡◌, ◌<◌, ◌++◌, length, IfOk, IsErrOf, IsTrue};
 ghost use Rattle.byte_edges.specs.Edges.{Writes};
 
 use crate::{
     InputError, MemorySink, MemorySource, Sink, Source, StdSink, StdSource, SteadySink,
     SteadySource, WriteFault, read_all, write_bytes,
 };
+use std::alloc::Global;
 use std::test::Fail;
 
 // A text that is written in parts: the contract of its parts gives that of the whole.
@@ -19,6 +20,23 @@ fn write_three<K: Sink>(
     write_bytes(first, sink)?;
     write_bytes(second, sink)?;
     write_bytes(third, sink)
+}
+
+// A source that never fails is read, unless it is too long or memory runs out.
+fn read_steady(alloc: Global, bytes: Vec<u8>, limit: u64) -> Result<Vec<u8>, InputError>
+    ensures all { IfOk result (λ got. got.items ≡ bytes.items) }
+    ensures too_long { IsErrOf result InputError.TooLong → limit < length bytes.items }
+    ensures no_fault { ¬ IsErrOf result InputError.ReadFault }
+{
+    let mut source = SteadySource::open(bytes);
+    read_all(alloc, &mut source, limit)
+}
+
+// A sink that never fails takes all.
+fn write_steady(bytes: &[u8], sink: &mut SteadySink) -> bool
+    ensures { IsTrue result }
+{
+    write_bytes(bytes, sink).is_ok()
 }
 
 #[test]
@@ -74,13 +92,13 @@ fn a_fault_leaves_a_prefix(rt: HostRuntime) -> Result<(), Fail> {
 #[test]
 fn steady_edges_never_fail(rt: HostRuntime) -> Result<(), Fail> {
     let alloc = rt.alloc();
-    let mut source = SteadySource::open(b"abcdefg".to_vec(alloc)?);
-    let bytes = read_all(alloc, &mut source, 7)?;
+    let bytes = read_steady(alloc, b"abcdefg".to_vec(alloc)?, 7)?;
     assert_eq!(rt; bytes.as_slice(), b"abcdefg".as_slice());
 
     // The second write doesn't fit, and from then on nothing is kept.
     let mut sink = SteadySink::open(alloc, 5)?;
     write_three(b"abcd", b"ef", b"g", &mut sink)?;
+    assert!(rt; write_steady(b"h", &mut sink));
     assert_eq!(rt; sink.written(), b"abcd".as_slice());
     Ok(())
 }
@@ -100,5 +118,6 @@ fn a_writer_of_std_that_takes_nothing_fails(rt: HostRuntime) -> Result<(), Fail>
     let whole = write_bytes(b"ab", &mut sink).is_ok();
     let past = write_bytes(b"cd", &mut sink).is_ok();
     assert!(rt; whole && !past);
+    assert_eq!(rt; room, *b"abc");
     Ok(())
 }
