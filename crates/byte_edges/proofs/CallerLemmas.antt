@@ -1,9 +1,11 @@
 -- What callers need of the words on sources and sinks: writes in turn make one write.
-use Rattle.std.proofs.Common.{◌≡◌, ◌≤◌, ◌+◌, ◌++◌, ℕ, List, [], Option, Some, None, Ok, Err, length, take, min, sym, ◌∙◌, ap, arith, append_assoc}
+use Rattle.std.proofs.Common.{◌<◌, drop, get_or, ◌≡◌, ◌≤◌, ◌+◌, ◌++◌, ℕ, List, [], Option, Some, None, Ok, Err, length, take, min, sym, ◌∙◌, ap, arith, append_assoc}
 use Rattle.std.specs.Prelude.{Result, IsErr}
-use Rattle.std.proofs.lemmas.List.{append-nil, take-append-le, take_min}
+use Rattle.std.proofs.lemmas.List.{take_more, take-append-drop, append-nil, take-append-le, take_min}
 use Rattle.std.proofs.Math.Seq.{take-append-add}
 use Rattle.std.proofs.lemmas.Result.{on_ok_weaker, on_err_weaker}
+use Rattle.std.specs.List.{flat_map}
+use Rattle.std.proofs.lemmas.Grind.{flat_map-append}
 use Rattle.byte_edges.specs.Faults.{Rose}
 use Rattle.byte_edges.specs.Edges.{Appended, AppendedPrefix, Writes}
 
@@ -82,3 +84,24 @@ module _ {K : Type 0} {written : K → Option (List ℕ)} {faults : K → ℕ} w
   -- the same bytes, said otherwise
   pub writes_same : {T E : Type 0} {old new : K} {bytes same : List ℕ} {result : Result T E} → bytes ≡ same → Writes written faults old new bytes result → Writes written faults old new same result
   writes_same equal one = rw (← equal) one
+
+-- the texts of a list's first elements, and of the next
+flat_map-take-more : {X : Type 0} (text : X → List ℕ) (xs : List X) (i : ℕ) (d : X) → i < length xs → flat_map text (take i xs) ++ text (get_or xs i d) ≡ flat_map text (take (i + 1) xs)
+flat_map-take-more text xs i d within =
+    rw (take_more xs i d within, flat_map-append) (ap (λ last. flat_map text (take i xs) ++ last) (sym (append-nil (text (get_or xs i d)))))
+
+-- the texts of a list's first elements, and of the rest
+flat_map-take-drop : {X : Type 0} (text : X → List ℕ) (xs : List X) (i : ℕ) → flat_map text (take i xs) ++ flat_map text (drop i xs) ≡ flat_map text xs
+flat_map-take-drop text xs i =
+    sym (flat_map-append text (take i xs) (drop i xs)) ∙ ap (flat_map text) (take-append-drop i xs)
+
+module _ {K : Type 0} {written : K → Option (List ℕ)} {faults : K → ℕ} where
+  -- a loop that writes the texts of a list's elements came one element on
+  pub writes_next : {X T U E F : Type 0} {old mid new : K} {value : T} {result : Result U F} (text : X → List ℕ) (xs : List X) (i : ℕ) (d : X) → i < length xs → Writes {E = E} written faults old mid (flat_map text (take i xs)) (Ok value) → Writes written faults mid new (text (get_or xs i d)) result → Writes written faults old new (flat_map text (take (i + 1) xs)) result
+  writes_next text xs i d within one two =
+      writes_same (flat_map-take-more text xs i d within) (writes_then one two)
+
+  -- such a loop stopped at a fault
+  pub writes_stopped : {X T E : Type 0} {old new : K} {error : E} (text : X → List ℕ) (xs : List X) (i : ℕ) → Writes {T = T} written faults old new (flat_map text (take i xs)) (Err error) → Writes {T = T} written faults old new (flat_map text xs) (Err error)
+  writes_stopped text xs i one =
+      writes_same (flat_map-take-drop text xs i) (writes_longer (flat_map text (drop i xs)) one)
