@@ -1,5 +1,5 @@
 -- Bodies of positive literals that weigh 1 each: they hold where all their atoms are in the set.
-use Rattle.std.proofs.Common.{◌≡◌, ℕ, ◌+◌, ◌≤◌, Bool, true, false, List, [], ◌∷◌, length, IsTrue, if◌then◌else◌, arith, ⊎_elim}
+use Rattle.std.proofs.Common.{◌≡◌, ◌≤◌, Bool, false, List, [], ◌∷◌, length, arith, ⊎_elim}
 use Rattle.std.proofs.lemmas.Bool.{cases_Bool}
 use Rattle.std.specs.Prelude.{sum_by}
 use Rattle.std.specs.List.{All}
@@ -50,9 +50,9 @@ all_from_sum by set (part ∷ body) plain reached =
     let light = weight-le by set part here in
     All-cons (HasPart set) part body
     (⊎_elim (λ (known : IsIn set part.lit.atom). known)
-        (λ (out : has set part.lit.atom ≡ false).
-            let none = weight-out by set part here out in absurd (omega (arith, total, below, none)))
-        (cases_Bool (has set part.lit.atom)))
+    (λ (out : has set part.lit.atom ≡ false).
+    let none = weight-out by set part here out in absurd (omega (arith, total, below, none)))
+    (cases_Bool (has set part.lit.atom)))
     (all_from_sum by set body rest (omega (arith, total, light)))
 
 -- where all atoms are in the set, the weights reach the number of literals
@@ -61,7 +61,7 @@ pub sum_from_all : (by set : List Bool) (body : List Weighted) → All IsPlain b
 sum_from_all by set [] plain all = omega arith
 sum_from_all by set (part ∷ body) plain all =
     let rest : length body ≤ sum_by (weight_in by set) body =
-        sum_from_all by set body (All-tail IsPlain part body plain) (All-tail (HasPart set) part body all) in
+    sum_from_all by set body (All-tail IsPlain part body plain) (All-tail (HasPart set) part body all) in
     let here : weight_in by set part ≡ 1 =
-        weight-in by set part (All-head IsPlain part body plain) (All-head (HasPart set) part body all) in
+    weight-in by set part (All-head IsPlain part body plain) (All-head (HasPart set) part body all) in
     omega (arith, sum_by-cons (weight_in by set) part body, here, rest)

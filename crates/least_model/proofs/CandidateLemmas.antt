@@ -1,6 +1,6 @@
 -- A set that keeps definite rules and is part of each such set is the only candidate.
-use Rattle.std.proofs.Common.{◌≡◌, ℕ, ◌⊎◌, Bool, true, false, List, length, get_or, ⊎_elim, subst, sym, ◌∙◌}
-use Rattle.std.specs.List.{All, Any}
+use Rattle.std.proofs.Common.{◌≡◌, Bool, false, List, length, ⊎_elim, subst, sym, ◌∙◌}
+use Rattle.std.specs.List.{All}
 use Rattle.std.proofs.lemmas.Bool.{both_ways, cases_Bool}
 use Rattle.ground_program.specs.declared.program.Rule.{Rule}
 use Rattle.ground_program.specs.declared.program.Program.{Program}
@@ -21,8 +21,8 @@ smaller_fails : (rules : List Rule) (set : List Bool) → All IsKnown rules → 
 smaller_fails rules set known least smaller proper =
     ⊎_elim
     (λ (kept : KeepsAll set smaller rules).
-        let whole = least.within smaller (all_keep_by set smaller smaller rules known kept) in
-        absurd (proper.other (same_sets smaller set proper.positions proper.inside whole)))
+    let whole = least.within smaller (all_keep_by set smaller smaller rules known kept) in
+    absurd (proper.other (same_sets smaller set proper.positions proper.inside whole)))
     (λ (some : SomeFails set smaller rules). some)
     (each_or_some IsKnown (Keeps set smaller) (keeps_or_not set smaller) rules known)
 
@@ -33,14 +33,14 @@ nothing_beyond program set other known least positions answer atom there =
     ⊎_elim
     (λ (here : IsIn set atom). here)
     (λ (out : has set atom ≡ false).
-        let P : List Bool → Type 0 = λ it. IsIn it atom in
-        let proper : IsProperSubset set other = record {
-          positions = positions;
-          inside = least.within other answer.keeps;
-          other = λ same. both_ways (has set atom) out (subst P (sym same) there);
-        } in
-        absurd (none_fails (Keeps other set) program.rules
-            (all_keep_by set other set program.rules known least.keeps) (answer.least set proper)))
+    let P : List Bool → Type 0 = λ it. IsIn it atom in
+    let proper : IsProperSubset set other = record {
+      positions = positions;
+      inside = least.within other answer.keeps;
+      other = λ same. both_ways (has set atom) out (subst P (sym same) there);
+    } in
+    absurd (none_fails (Keeps other set) program.rules
+    (all_keep_by set other set program.rules known least.keeps) (answer.least set proper)))
     (cases_Bool (has set atom))
 
 pub only_candidate : (program : Program) (set : List Bool) → All IsKnown program.rules

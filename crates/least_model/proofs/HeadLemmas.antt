@@ -1,9 +1,8 @@
 -- The heads of a program's rules have positions in its sets.
-use Rattle.std.proofs.Common.{◌≡◌, ℕ, ◌+◌, ◌<◌, ◌≤◌, List, [], ◌∷◌, ◌++◌, length, get_or, max, arith, map}
+use Rattle.std.proofs.Common.{ℕ, ◌+◌, ◌<◌, ◌≤◌, List, [], ◌∷◌, ◌++◌, max, arith, map}
 use Rattle.std.specs.List.{All, flat_map}
 use Rattle.std.proofs.lemmas.List.Elements.{All-cons, All-nil, All-weaker}
 use Rattle.ground_program.specs.declared.program.Named.{Named}
-use Rattle.ground_program.specs.declared.program.Rule.{Rule}
 use Rattle.ground_program.specs.declared.program.Weighted.{Weighted}
 use Rattle.ground_program.specs.declared.program.Program.{Program}
 use Rattle.ground_program.specs.Program.{IsProgram, atoms_of, atoms_of_rule, greatest}
@@ -15,7 +14,7 @@ all-le-greatest [] = All-nil (λ number. number ≤ 0)
 all-le-greatest (number ∷ rest) =
     All-cons (λ it. it ≤ max number (greatest rest)) number rest (omega arith)
     (All-weaker (λ it. it ≤ greatest rest) (λ it. it ≤ max number (greatest rest)) (λ it low. omega (arith, low)) rest
-        (all-le-greatest rest))
+    (all-le-greatest rest))
 
 -- a position of an atom in a set over the atoms up to the greatest
 abbrev pub HasPosition : ℕ → ℕ → Type 0

@@ -1,21 +1,19 @@
 -- What a try at a rule and a round over the rules do, and what the rounds come to.
-use Rattle.std.proofs.Common.{◌≡◌, ℕ, ◌+◌, ◌<◌, ◌≤◌, Bool, true, false, List, [], ◌∷◌, ◌++◌, length, set, get_or, zero, suc, arith, refl, sym, ◌∙◌, subst, ap, length-set}
+use Rattle.std.proofs.Common.{◌≡◌, ℕ, ◌<◌, ◌≤◌, Bool, true, false, List, [], ◌∷◌, ◌++◌, length, set, get_or, zero, suc, arith, refl, sym, ◌∙◌, subst, ap, length-set}
 use Rattle.std.specs.Prelude.{Some, slice_get}
-use Rattle.std.specs.Bool.{OnFalse, OnTrue}
 use Rattle.std.specs.List.{All}
 use Rattle.std.proofs.lemmas.List.Elements.{All-nil, All-push, All-weaker}
 use Rattle.std.proofs.lemmas.Option.{get_or_from_slice_get}
 use Rattle.ground_program.specs.declared.program.Rule.{Rule}
 use Rattle.ground_program.specs.declared.program.Program.{Program}
-use Rattle.ground_program.specs.declared.program.Weighted.{Weighted}
 use Rattle.ground_program.specs.Meaning.{IsIn, IsSetOver, Keeps, KeepsAll, has}
 use Rattle.ground_program.specs.Program.{IsProgram}
 use Rattle.least_model.specs.Candidate.{IsOnlyCandidate}
 use Rattle.least_model.specs.Definite.{IsDefinite}
 use Rattle.least_model.specs.Rounds.{Grows, IsEmptySet, IsPart, Suits, TriesAll, TriesRule, missing}
 use Rattle.least_model.proofs.BodyLemmas.{HasPart}
-use Rattle.least_model.proofs.CandidateLemmas.{IsLeast, only_candidate}
-use Rattle.least_model.proofs.HeadLemmas.{HasPosition, heads_have_positions}
+use Rattle.least_model.proofs.CandidateLemmas.{only_candidate}
+use Rattle.least_model.proofs.HeadLemmas.{heads_have_positions}
 use Rattle.least_model.proofs.ListLemmas.{All-left, All-right}
 use Rattle.least_model.proofs.RuleLemmas.{IsKnown, head_first, heads_from, keeps_from}
 use Rattle.least_model.proofs.SetLemmas.{added_is_part, missing-added}
@@ -75,7 +73,7 @@ adds_head rule before head suits first out body =
       no_atom = slice_get-set_first before head position.0;
       within = λ other keeps part.
           let there : All (HasPart other) rule.body =
-              All-weaker (HasPart before) (HasPart other) (λ it known_there. part it.lit.atom known_there) rule.body body in
+          All-weaker (HasPart before) (HasPart other) (λ it known_there. part it.lit.atom known_there) rule.body body in
           added_is_part before other head part
           (head_is rule head known first (IsIn other) (heads_from other other rule known keeps there));
       nearer = missing-added before head position.1 out;

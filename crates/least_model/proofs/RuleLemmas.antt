@@ -1,14 +1,12 @@
 -- Definite rules: whether a set keeps one doesn't depend on the set of the reduct, and can be decided.
-use Rattle.std.proofs.Common.{◌≡◌, ◌≢◌, ℕ, ◌+◌, ◌<◌, ◌≤◌, ◌⊎◌, inl, inr, Bool, true, false, List, [], ◌∷◌, length, get_or, IsTrue, arith, ⊎_elim, subst, sym, refl, ◌↔◌, suc}
+use Rattle.std.proofs.Common.{◌≡◌, ℕ, ◌<◌, ◌≤◌, ◌⊎◌, inl, inr, Bool, false, List, [], ◌∷◌, length, get_or, arith, ⊎_elim, subst, sym, refl, suc}
 use Rattle.std.specs.Prelude.{sum_by}
 use Rattle.std.specs.List.{All, Any}
 use Rattle.std.proofs.lemmas.Bool.{both_ways, cases_Bool, cases_lt}
 use Rattle.std.proofs.lemmas.List.Elements.{All-nil, All-cons, All-head, All-tail}
 use Rattle.ground_program.specs.declared.program.Kind.{Kind}
-use Rattle.ground_program.specs.declared.program.Kind.TheVariants.{Basic}
-use Rattle.ground_program.specs.declared.program.Weighted.{Weighted}
 use Rattle.ground_program.specs.declared.program.Rule.{Rule}
-use Rattle.ground_program.specs.Meaning.{BodyHolds, HeadHolds, IsIn, Keeps, KeepsAll, SomeFails, has, weight_in}
+use Rattle.ground_program.specs.Meaning.{BodyHolds, HeadHolds, IsIn, Keeps, KeepsAll, has, weight_in}
 use Rattle.ground_program.specs.Program.{BoundFits, HeadsFit, IsRule, WeightFits}
 use Rattle.least_model.specs.Definite.{IsDefiniteRule}
 use Rattle.least_model.proofs.BodyLemmas.{HasPart, IsPlain, all_from_sum, sum_from_all}
@@ -84,9 +82,9 @@ pub each_or_some : {X : Type 0} (Q P : X → Type 0) → ((x : X) → Q x → P 
 each_or_some Q P test [] given = inl (All-nil P)
 each_or_some Q P test (x ∷ xs) given =
     ⊎_elim (λ (here : P x).
-        ⊎_elim (λ (rest : All P xs). inl (All-cons P x xs here rest))
-        (λ (rest : Any (λ y. ¬ P y) xs). inr (suc rest.0, rest.1, omega (arith, rest.2), rest.3, rest.4))
-        (each_or_some Q P test xs (All-tail Q x xs given)))
+    ⊎_elim (λ (rest : All P xs). inl (All-cons P x xs here rest))
+    (λ (rest : Any (λ y. ¬ P y) xs). inr (suc rest.0, rest.1, omega (arith, rest.2), rest.3, rest.4))
+    (each_or_some Q P test xs (All-tail Q x xs given)))
     (λ (fails : ¬ P x). inr (0, x, omega arith, refl, fails))
     (test x (All-head Q x xs given))
 
@@ -111,9 +109,9 @@ pub keeps_or_not : (by set : List Bool) (rule : Rule) → IsKnown rule → Keeps
 keeps_or_not by set rule known =
     ⊎_elim (λ (all : All (IsIn set) rule.heads). inl (λ _. heads_hold by set rule known all))
     (λ (lacks : ¬ All (IsIn set) rule.heads).
-        ⊎_elim (λ (short : sum_by (weight_in by set) rule.body < rule.bound).
-            inl (λ holds. absurd (omega (arith, short, holds))))
-        (λ (holds : rule.bound ≤ sum_by (weight_in by set) rule.body).
-            inr (λ keeps. lacks (heads_in by set rule known (keeps holds))))
-        (cases_lt (sum_by (weight_in by set) rule.body) rule.bound))
+    ⊎_elim (λ (short : sum_by (weight_in by set) rule.body < rule.bound).
+    inl (λ holds. absurd (omega (arith, short, holds))))
+    (λ (holds : rule.bound ≤ sum_by (weight_in by set) rule.body).
+    inr (λ keeps. lacks (heads_in by set rule known (keeps holds))))
+    (cases_lt (sum_by (weight_in by set) rule.body) rule.bound))
     (all_in_or_not set rule.heads)

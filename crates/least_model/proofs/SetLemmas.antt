@@ -1,11 +1,9 @@
 -- Sets of atoms: parts, single writes and equality.
-use Rattle.std.proofs.Common.{◌≡◌, ◌≢◌, ℕ, ◌+◌, ◌<◌, ◌≤◌, Bool, true, false, not, List, length, set, get_or, IsTrue, arith, ⊎_elim, sym, ◌∙◌, refl, cond}
-use Rattle.std.specs.Prelude.{count_by, slice_get}
-use Rattle.std.proofs.lemmas.Bool.{cases_Bool, cases_eq, cases_lt, false_from_ne_true}
-use Rattle.std.proofs.lemmas.List.{ext_get_or, get_or-set_same, get_or-set_other, get_or_past, length-set}
+use Rattle.std.proofs.Common.{◌≡◌, ℕ, ◌<◌, Bool, true, false, not, List, length, set, arith, ⊎_elim, sym, ◌∙◌, refl, cond}
+use Rattle.std.proofs.lemmas.Bool.{cases_eq}
+use Rattle.std.proofs.lemmas.List.{ext_get_or, get_or-set_other}
 use Rattle.std.proofs.lemmas.List.Sums.{sum_by-set}
-use Rattle.std.proofs.lemmas.Grind.{common_steps}
-use Rattle.ground_program.specs.Meaning.{IsIn, IsProperSubset, has}
+use Rattle.ground_program.specs.Meaning.{IsIn, has}
 use Rattle.least_model.specs.Rounds.{IsPart, missing}
 
 -- two truth values that are true together are the same

@@ -1,5 +1,5 @@
 -- What the rounds over the rules do to the set. Only private calls say this.
-use Rattle.std.specs.Prelude.{◌≡◌, ◌<◌, ◌≤◌, ℕ, Bool, true, false, not, List, length, All, count_by, slice_get}
+use Rattle.std.specs.Prelude.{◌≡◌, ◌<◌, ◌≤◌, ℕ, Bool, not, List, length, All, count_by, slice_get}
 use Rattle.std.specs.Bool.{OnTrue, OnFalse}
 use Rattle.ground_program.specs.declared.program.Rule.{Rule}
 use Rattle.ground_program.specs.Meaning.{IsIn, IsSetOver, Keeps, KeepsAll}

@@ -12,16 +12,12 @@ pub fn no_answer_set(program: &Program, set: &Set)
     requires candidate { IsOnlyCandidate program.now set.now }
     requires misses { ¬ MeetsCompute program.now set.now }
     ensures { (other : List Bool) → ¬ IsAnswerSet program.now other }
-{
-}
+{}
 
 /// Where the only candidate meets it, the consequences of both kinds are those in the set.
 pub fn consequences_are_in_set(program: &Program, set: &Set)
     requires candidate { IsOnlyCandidate program.now set.now }
     requires meets { MeetsCompute program.now set.now }
-    ensures {
-        (mode : Mode) (cand : ℕ) →
-            IsConsequence program.now mode cand ↔ IsIn set.now (atom_of program.now.names cand)
-    }
-{
-}
+    ensures { (mode : Mode) (cand : ℕ) →
+        IsConsequence program.now mode cand ↔ IsIn set.now (atom_of program.now.names cand) }
+{}

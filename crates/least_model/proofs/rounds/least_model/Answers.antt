@@ -1,4 +1,3 @@
-use Rattle.std.proofs.Common.{◌≡◌}
 use Rattle.least_model.proofs.RoundLemmas.{all_suit, settled}
 use Rattle.least_model.proofs.rounds.least_model.Goals as goal
 
