@@ -1,3 +1,5 @@
 pub mod Program
 pub mod Meaning
 pub mod Bounds
+pub mod Models
+pub mod Validity
