@@ -17,13 +17,15 @@ pub record IsPlain (part : Weighted) : Type 0 where
 abbrev pub HasPart : List Bool → Weighted → Type 0
 HasPart set part = IsIn set part.lit.atom
 
-weight-in : (by set : List Bool) (part : Weighted) → IsPlain part → IsIn set part.lit.atom → weight_in by set part ≡ 1
+weight-in : (by set : List Bool) (part : Weighted) → IsPlain part → IsIn set part.lit.atom
+    → weight_in by set part ≡ 1
 weight-in by set part plain known =
     let positive = plain.positive in
     let one = plain.one in
     simp (positive, known, one)
 
-weight-out : (by set : List Bool) (part : Weighted) → IsPlain part → has set part.lit.atom ≡ false → weight_in by set part ≡ 0
+weight-out : (by set : List Bool) (part : Weighted) → IsPlain part → has set part.lit.atom ≡ false
+    → weight_in by set part ≡ 0
 weight-out by set part plain out =
     let positive = plain.positive in
     simp (positive, out)
@@ -34,7 +36,8 @@ weight-le by set part plain =
     (λ (out : has set part.lit.atom ≡ false). let here = weight-out by set part plain out in omega (arith, here))
     (cases_Bool (has set part.lit.atom))
 
-sum-le : (by set : List Bool) (body : List Weighted) → All IsPlain body → sum_by (weight_in by set) body ≤ length body
+sum-le : (by set : List Bool) (body : List Weighted) → All IsPlain body
+    → sum_by (weight_in by set) body ≤ length body
 sum-le by set body plain =
     omega (arith, sum_by-le (weight_in by set) 1 body (All-weaker IsPlain (λ part. weight_in by set part ≤ 1) (weight-le by set) body plain))
 

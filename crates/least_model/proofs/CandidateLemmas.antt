@@ -27,7 +27,8 @@ smaller_fails rules set known least smaller proper =
     (each_or_some IsKnown (Keeps set smaller) (keeps_or_not set smaller) rules known)
 
 -- an answer set has no atom beyond the least such set
-nothing_beyond : (program : Program) (set other : List Bool) → All IsKnown program.rules → IsLeast program.rules set
+nothing_beyond : (program : Program) (set other : List Bool) → All IsKnown program.rules
+    → IsLeast program.rules set
     → length set ≡ length other → IsAnswerSet program other → IsPart other set
 nothing_beyond program set other known least positions answer atom there =
     ⊎_elim

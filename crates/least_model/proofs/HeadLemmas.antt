@@ -20,7 +20,8 @@ all-le-greatest (number ∷ rest) =
 abbrev pub HasPosition : ℕ → ℕ → Type 0
 HasPosition atoms atom = (1 ≤ atom) × (atom < atoms + 1)
 
-all_have_positions : (program : Program) → IsProgram program → All (HasPosition program.atoms) (atoms_of program)
+all_have_positions : (program : Program) → IsProgram program
+    → All (HasPosition program.atoms) (atoms_of program)
 all_have_positions program valid k d within =
     let low = valid.each_atom k d within in
     let high = all-le-greatest (atoms_of program) k d within in

@@ -12,7 +12,8 @@ pub All-right : {X : Type 0} (P : X → Type 0) (xs ys : List X) → All P (xs +
 All-right P xs ys all k d within =
     subst P (get_or-append-add xs ys k d) (all (length xs + k) d (omega (arith, within, length-append xs ys)))
 
-pub All-flat_map : {X Y : Type 0} (P : Y → Type 0) (f : X → List Y) (xs : List X) → All P (flat_map f xs) → All (λ x. All P (f x)) xs
+pub All-flat_map : {X Y : Type 0} (P : Y → Type 0) (f : X → List Y) (xs : List X)
+    → All P (flat_map f xs) → All (λ x. All P (f x)) xs
 All-flat_map P f [] all = All-nil (λ x. All P (f x))
 All-flat_map P f (x ∷ xs) all =
     All-cons (λ y. All P (f y)) x xs (All-left P (f x) (flat_map f xs) all)

@@ -35,7 +35,8 @@ head_is rule head known first P all =
     subst P (get_or_from_slice_get rule.heads 0 head 0 first) (all 0 0 (omega (arith, one)))
 
 -- a set that keeps the rule stays
-pub stays : (rule : Rule) (before : List Bool) → Keeps before before rule → TriesRule rule before before false
+pub stays : (rule : Rule) (before : List Bool) → Keeps before before rule
+    → TriesRule rule before before false
 stays rule before keeps = record {
   positions = refl;
   no_atom = refl;
@@ -57,7 +58,8 @@ stays_without_body rule before suits lacks =
     let known = known_rule before rule suits in
     stays rule before (keeps_from before before rule known (λ all. absurd (lacks all)))
 
-slice_get-set_first : (before : List Bool) (head : ℕ) → 1 ≤ head → slice_get (set before head true) 0 ≡ slice_get before 0
+slice_get-set_first : (before : List Bool) (head : ℕ) → 1 ≤ head
+    → slice_get (set before head true) 0 ≡ slice_get before 0
 slice_get-set_first before zero above = absurd (omega (arith, above))
 slice_get-set_first [] (suc head) above = refl
 slice_get-set_first (bit ∷ before) (suc head) above = refl
@@ -90,7 +92,8 @@ round_none before = record {
   keeps = All-nil (Keeps before before);
 }
 
-grows_more : (front : List Rule) (rule : Rule) (before mid after : List Bool) (grew : Bool) → Grows front before mid
+grows_more : (front : List Rule) (rule : Rule) (before mid after : List Bool) (grew : Bool)
+    → Grows front before mid
     → TriesRule rule mid after grew → Grows (front ++ rule ∷ []) before after
 grows_more front rule before mid after grew so_far step = record {
   positions = step.positions ∙ so_far.positions;
@@ -100,7 +103,8 @@ grows_more front rule before mid after grew so_far step = record {
       (so_far.within other (All-left (Keeps other other) front (rule ∷ []) keeps) part);
 }
 
-missing_no_more : (front : List Rule) (before mid : List Bool) (grew : Bool) → TriesAll front before mid grew
+missing_no_more : (front : List Rule) (before mid : List Bool) (grew : Bool)
+    → TriesAll front before mid grew
     → missing mid ≤ missing before
 missing_no_more front before mid true so_far = let less = so_far.nearer in omega (arith, less)
 missing_no_more front before mid false so_far = let same = ap missing so_far.same in omega (arith, same)
@@ -169,7 +173,8 @@ all_suit program it valid definite below k rule within =
     }
 
 -- after a round that changed nothing
-pub settled : (program : Program) (before after : List Bool) → IsProgram program → IsDefinite program.rules
+pub settled : (program : Program) (before after : List Bool) → IsProgram program
+    → IsDefinite program.rules
     → IsBelow program before → TriesAll program.rules before after false → IsOnlyCandidate program after
 settled program before after valid definite below round =
     let end = below_more program before after false below round in

@@ -35,24 +35,28 @@ all_plain rule known k part within =
     }
 
 -- the body of a known rule holds where all its atoms are in the set
-pub body_from_all : (by set : List Bool) (rule : Rule) → IsKnown rule → All (HasPart set) rule.body → BodyHolds by set rule
+pub body_from_all : (by set : List Bool) (rule : Rule) → IsKnown rule → All (HasPart set) rule.body
+    → BodyHolds by set rule
 body_from_all by set rule known all =
     let reached = sum_from_all by set rule.body (all_plain rule known) all in
     let bound = bound-length rule known in
     omega (arith, reached, bound)
 
-pub all_from_body : (by set : List Bool) (rule : Rule) → IsKnown rule → BodyHolds by set rule → All (HasPart set) rule.body
+pub all_from_body : (by set : List Bool) (rule : Rule) → IsKnown rule → BodyHolds by set rule
+    → All (HasPart set) rule.body
 all_from_body by set rule known holds =
     let bound = bound-length rule known in
     all_from_sum by set rule.body (all_plain rule known) (omega (arith, holds, bound))
 
 -- the heads of a basic rule are in the set
-heads_in : (by set : List Bool) (rule : Rule) → IsKnown rule → HeadHolds rule.kind by set rule.heads → All (IsIn set) rule.heads
+heads_in : (by set : List Bool) (rule : Rule) → IsKnown rule → HeadHolds rule.kind by set rule.heads
+    → All (IsIn set) rule.heads
 heads_in by set rule known holds =
     let P : Kind → Type 0 = λ kind. HeadHolds kind by set rule.heads in
     subst P known.definite.basic holds
 
-pub heads_hold : (by set : List Bool) (rule : Rule) → IsKnown rule → All (IsIn set) rule.heads → HeadHolds rule.kind by set rule.heads
+pub heads_hold : (by set : List Bool) (rule : Rule) → IsKnown rule → All (IsIn set) rule.heads
+    → HeadHolds rule.kind by set rule.heads
 heads_hold by set rule known all =
     let P : Kind → Type 0 = λ kind. HeadHolds kind by set rule.heads in
     subst P (sym known.definite.basic) all
@@ -69,10 +73,12 @@ heads_from by set rule known keeps all =
     heads_in by set rule known (keeps (body_from_all by set rule known all))
 
 -- the reduct doesn't depend on the set that it is made by
-pub keeps_by : (by other set : List Bool) (rule : Rule) → IsKnown rule → Keeps by set rule → Keeps other set rule
+pub keeps_by : (by other set : List Bool) (rule : Rule) → IsKnown rule → Keeps by set rule
+    → Keeps other set rule
 keeps_by by other set rule known keeps = keeps_from other set rule known (heads_from by set rule known keeps)
 
-pub all_keep_by : (by other set : List Bool) (rules : List Rule) → All IsKnown rules → KeepsAll by set rules → KeepsAll other set rules
+pub all_keep_by : (by other set : List Bool) (rules : List Rule) → All IsKnown rules
+    → KeepsAll by set rules → KeepsAll other set rules
 all_keep_by by other set rules known keeps k rule within =
     keeps_by by other set (get_or rules k rule) (known k rule within) (keeps k rule within)
 
@@ -105,7 +111,8 @@ all_in_or_not set atoms =
     (each_or_some (λ _. Unit {0}) (IsIn set) (λ atom _. in_or_out set atom) atoms (λ _ _ _. tt))
 
 -- a set keeps a known rule of a reduct or doesn't
-pub keeps_or_not : (by set : List Bool) (rule : Rule) → IsKnown rule → Keeps by set rule ⊎ ¬ Keeps by set rule
+pub keeps_or_not : (by set : List Bool) (rule : Rule) → IsKnown rule
+    → Keeps by set rule ⊎ ¬ Keeps by set rule
 keeps_or_not by set rule known =
     ⊎_elim (λ (all : All (IsIn set) rule.heads). inl (λ _. heads_hold by set rule known all))
     (λ (lacks : ¬ All (IsIn set) rule.heads).

@@ -18,7 +18,8 @@ same_sets a b positions forth back =
     ext_get_or false a b positions (λ atom _. same_bits (has a atom) (has b atom) (forth atom) (back atom))
 
 -- a set with one more atom is part of each set that has the atom and the rest
-pub added_is_part : (before other : List Bool) (head : ℕ) → IsPart before other → IsIn other head → IsPart (set before head true) other
+pub added_is_part : (before other : List Bool) (head : ℕ) → IsPart before other → IsIn other head
+    → IsPart (set before head true) other
 added_is_part before other head part here atom known =
     ⊎_elim (λ (same : atom ≡ head). rw same here)
     (λ (apart : atom ≡ head → ⊥). part atom (sym (get_or-set_other before head atom true false apart) ∙ known))
