@@ -1,0 +1,15 @@
+//! The least model of a program whose rules are basic and have no negative literals. It is the
+//! one set that can be an answer set.
+#![tactic(auto)]
+
+mod definite;
+mod laws;
+mod membership;
+mod rounds;
+#[cfg(test)]
+mod tests;
+
+pub use definite::first_other_rule;
+pub use laws::{consequences_are_in_set, no_answer_set};
+pub use membership::meets_compute;
+pub use rounds::least_model;
