@@ -1,0 +1,12 @@
+//! Clauses and the trail: literals, clause lists, a store of clauses that only grows, the trail of
+//! assignments, and a budget of counted clauses.
+#![tactic(auto)]
+
+mod clause;
+mod literal;
+mod says;
+
+pub use clause::{Clause, Units};
+pub use literal::{ClauseRef, Lit, Value, Var};
+pub use plain_list::{Copied, List, NoMemory};
+pub use says::Says;
