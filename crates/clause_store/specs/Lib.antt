@@ -1,2 +1,4 @@
 pub mod Clause
 pub mod Entailment
+pub mod Trail
+pub mod Laws

@@ -5,8 +5,10 @@
 mod clause;
 mod literal;
 mod says;
+mod step;
 
 pub use clause::{Clause, Units};
 pub use literal::{ClauseRef, Lit, Value, Var};
 pub use plain_list::{Copied, List, NoMemory};
 pub use says::Says;
+pub use step::Step;
