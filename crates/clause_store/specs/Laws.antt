@@ -3,7 +3,7 @@ use Rattle.std.specs.Prelude.{◌≡◌, ◌≢◌, ◌≤◌, ◌++◌, ℕ, Bo
 use Rattle.clause_store.specs.declared.literal.Lit.{Lit}
 use Rattle.clause_store.specs.declared.literal.Value.TheVariants.{Yes}
 use Rattle.clause_store.specs.declared.step.Step.{Step}
-use Rattle.clause_store.specs.Clause.{variable, makes_true, HasAll, IsOver}
+use Rattle.clause_store.specs.Clause.{makes_true, IsTrueIn, Meets, HasAll, IsOver}
 use Rattle.clause_store.specs.Entailment.{Follows, InClosure, Refutes, Absorbs, AreUnits, IsUnit, negations}
 use Rattle.clause_store.specs.Trail.{Assigned, IsTotal, IsTrailOf, value_of, values_of}
 
@@ -46,6 +46,12 @@ abbrev pub UnitsGrow : Type 0
 UnitsGrow =
     (base units : List (List Lit)) (unit : List Lit) → AreUnits base units → IsUnit (base ++ units) unit
     → AreUnits base (units ++ unit ∷ [])
+
+-- what propagation gives from true literals is true in each assignment that meets the clauses
+abbrev pub ClosureHolds : Type 0
+ClosureHolds =
+    (values : List Bool) (clauses : List (List Lit)) (lits : List Lit) (lit : Lit) → Meets values clauses
+    → All (IsTrueIn values) lits → InClosure clauses lits lit → IsTrueIn values lit
 
 -- where the negations of the literals of a clause are refuted, the clause follows
 abbrev pub RefutedFollows : Type 0

@@ -3,6 +3,7 @@
 #![tactic(auto)]
 
 mod clause;
+pub mod laws;
 mod literal;
 mod says;
 mod step;
