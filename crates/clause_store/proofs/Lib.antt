@@ -1,2 +1,4 @@
 pub mod LiteralLemmas
 pub mod EntailmentLemmas
+pub mod LayoutLemmas
+pub mod TrailLemmas

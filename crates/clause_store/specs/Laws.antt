@@ -5,7 +5,7 @@ use Rattle.clause_store.specs.declared.literal.Value.TheVariants.{Yes}
 use Rattle.clause_store.specs.declared.step.Step.{Step}
 use Rattle.clause_store.specs.Clause.{makes_true, IsTrueIn, Meets, HasAll, IsOver}
 use Rattle.clause_store.specs.Entailment.{Follows, InClosure, Refutes, Absorbs, AreUnits, IsUnit, negations}
-use Rattle.clause_store.specs.Trail.{Assigned, IsTotal, IsTrailOf, value_of, values_of}
+use Rattle.clause_store.specs.Trail.{Assigned, IsTotal, KeepsTrails, value_of, values_of}
 
 -- more clauses and more literals: each of one list is in the other
 abbrev pub AreMoreClauses : List (List Lit) → List (List Lit) → Type 0
@@ -60,9 +60,7 @@ RefutedFollows =
 
 -- a clause that is added to a store leaves a trail of the store one
 abbrev pub TrailStays : Type 0
-TrailStays =
-    (steps : List Step) (clauses : List (List Lit)) (clause : List Lit) → IsTrailOf steps clauses
-    → IsTrailOf steps (clauses ++ clause ∷ [])
+TrailStays = (clauses : List (List Lit)) (clause : List Lit) → KeepsTrails clauses (clauses ++ clause ∷ [])
 
 -- the assignment of a total trail makes just the literals true that are true on the trail
 abbrev pub TotalMeans : Type 0

@@ -1,5 +1,5 @@
 -- A trail is the list of its assignments in order. What its calls answer are functions of that list.
-use Rattle.std.specs.Prelude.{◌≡◌, ◌≢◌, ◌≤◌, ◌+◌, ◌*◌, ◌==◌, ℕ, Bool, true, false, max, map, if◌then◌else◌, List, [], ◌∷◌, take, find, slice_get, All, AllPairs, Contains, Option, None, Some, option_map, option_and_then, IsSome, ⊤}
+use Rattle.std.specs.Prelude.{◌≡◌, ◌≢◌, ◌≤◌, ◌+◌, ◌*◌, ◌==◌, ℕ, Bool, true, false, max, map, filter, nat_le, if◌then◌else◌, List, [], ◌∷◌, take, find, slice_get, All, AllPairs, Contains, Option, None, Some, option_map, option_and_then, IsSome, ⊤}
 use Rattle.std.specs.List.{range_with_len}
 use Rattle.clause_store.specs.declared.literal.Lit.{Lit}
 use Rattle.clause_store.specs.declared.literal.ClauseRef.{ClauseRef}
@@ -69,6 +69,18 @@ abbrev pub IsTrailOf : List Step → List (List Lit) → Type 0
 IsTrailOf steps clauses =
     (at : ℕ) (step : Step) (why : ClauseRef) → slice_get steps at ≡ Some step → step.reason ≡ Some why
     → IsReasonFor clauses (take at steps) step.lit why
+
+-- each trail of the old clauses is one of the new clauses
+abbrev pub KeepsTrails : List (List Lit) → List (List Lit) → Type 0
+KeepsTrails old new = (steps : List Step) → IsTrailOf steps old → IsTrailOf steps new
+
+-- a trail with the old steps, of any clauses, is one of them with the new steps
+abbrev pub StaysTrail : List Step → List Step → Type 0
+StaysTrail old new = (clauses : List (List Lit)) → IsTrailOf old clauses → IsTrailOf new clauses
+
+-- the assignments of the levels up to one
+abbrev pub up_to : ℕ → List Step → List Step
+up_to level steps = filter (λ step. nat_le step.level level) steps
 
 -- each variable is assigned
 abbrev pub IsTotal : Assigned → Type 0

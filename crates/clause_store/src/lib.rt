@@ -2,14 +2,20 @@
 //! assignments, and a budget of counted clauses.
 #![tactic(auto)]
 
+mod budget;
 mod clause;
 pub mod laws;
 mod literal;
 mod says;
 mod step;
+mod store;
+mod trail;
 
+pub use budget::Budget;
 pub use clause::{Clause, Units};
 pub use literal::{ClauseRef, Lit, Value, Var};
 pub use plain_list::{Copied, List, NoMemory};
 pub use says::Says;
 pub use step::Step;
+pub use store::Store;
+pub use trail::Trail;
