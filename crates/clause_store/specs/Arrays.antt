@@ -15,10 +15,11 @@ pub record AreAnswers (vars : ℕ) (steps : List Step) (variables : List (Option
   pub by_var : IsTable (step_of steps) (vars + 1) variables
   pub values : IsTable (λ code. value_of steps (record { 0 = code })) (2 * vars + 2) literals
 
--- what is true of the fields of a trail; `room` is the room that was reserved for assignments
-pub record IsKept (vars : ℕ) (steps : List Step) (room : ℕ) (by_var : List (Option Step)) (values : List Value) : Type 0 where
+-- what is true of the fields of a trail; the vector of the steps counts `count` and has room for `room`
+pub record IsKept (vars : ℕ) (steps : List Step) (count room : ℕ) (by_var : List (Option Step)) (values : List Value) : Type 0 where
   pub few : vars < 2 ^ 31
   pub trail : IsTrail (record { vars = vars; steps = steps })
+  pub counted : count ≡ length steps
   pub reserved : vars ≤ room
   pub answers : AreAnswers vars steps by_var values
 

@@ -21,7 +21,7 @@ pub struct Trail {
 }
 
 impl Model for Trail {
-    ghost use Rattle.std.specs.Prelude.{vec_capacity};
+    ghost use Rattle.std.specs.Prelude.{vec_len, vec_capacity};
     ghost use Rattle.clause_store.specs.Trail.{Assigned};
     ghost use Rattle.clause_store.specs.Arrays.{IsKept};
 
@@ -29,7 +29,7 @@ impl Model for Trail {
 
     ghost view = { λ trail. record { vars = trail.vars; steps = trail.steps.items } };
 
-    ghost invariant = { λ trail. IsKept trail.vars trail.steps.items (vec_capacity trail.steps) trail.by_var.items trail.values.items };
+    ghost invariant = { λ trail. IsKept trail.vars trail.steps.items (vec_len trail.steps) (vec_capacity trail.steps) trail.by_var.items trail.values.items };
 }
 
 impl Trail {
@@ -101,6 +101,7 @@ impl Trail {
     pub fn level(&self) -> u32
         ensures level { result ≡ present_level self.now.steps }
         ensures few { result ≤ self.now.vars }
+        ensures small { result < 2 ^ 31 }
     {
         match self.steps.as_slice() {
             [] => 0,
