@@ -1,10 +1,10 @@
 -- The clauses that spans cut out stay when literals are put behind.
-use Rattle.std.proofs.Common.{◌≡◌, ℕ, ◌+◌, ◌-◌, ◌<◌, ◌≤◌, List, [], ◌∷◌, ◌++◌, length, map, take, drop, get_or, refl, sym, ap, ap₂, ◌∙◌, subst, arith, length-append}
-use Rattle.std.specs.Prelude.{All, slice_range, slice_get, Some, option_map, Result, Ok, Err, OnErr}
+use Rattle.std.proofs.Common.{◌≡◌, ℕ, ◌-◌, ◌<◌, ◌≤◌, List, [], ◌∷◌, ◌++◌, length, take, drop, refl, sym, ap, ap₂, ◌∙◌, subst, arith, length-append}
+use Rattle.std.specs.Prelude.{All, slice_get, Some, option_map, Result, Ok, Err, OnErr}
 use Rattle.std.proofs.lemmas.List.{take-append-le, drop-append-le, length-drop, length-map, map-append}
 use Rattle.std.proofs.Math.Seq.{drop-append_seam, take-length}
 use Rattle.std.proofs.lemmas.Option.{get_or_from_slice_get, slice_get_within, slice_get-map}
-use Rattle.std.proofs.lemmas.List.Elements.{All-cons, All-head, All-tail, All-nil, All-push, All-weaker}
+use Rattle.std.proofs.lemmas.List.Elements.{All-head, All-tail, All-push, All-weaker}
 use Rattle.clause_store.specs.declared.literal.Lit.{Lit}
 use Rattle.clause_store.specs.declared.store.Span.{Span}
 use Rattle.clause_store.specs.Clause.{IsClause}
@@ -27,7 +27,8 @@ pub laid_out_longer : (old new : List Lit) (spans : List Span) → IsLonger old 
 laid_out_longer old new spans (rest, is) laid =
     subst (λ n. IsLaidOut n spans) (sym is) (record {
       within = All-weaker (IsSpan old) (IsSpan (old ++ rest)) (λ span s. record { order = s.order; within = omega (arith, s.within, length-append old rest) }) spans laid.within;
-      allowed = subst (All IsClause) (sym (clauses_of_longer old rest spans laid.within)) laid.allowed })
+      allowed = subst (All IsClause) (sym (clauses_of_longer old rest spans laid.within)) laid.allowed;
+    })
 
 pub clauses_longer : (old new : List Lit) (spans : List Span) → IsLonger old new → IsLaidOut old spans → clauses_of new spans ≡ clauses_of old spans
 clauses_longer old new spans (rest, is) laid = ap (λ n. clauses_of n spans) is ∙ clauses_of_longer old rest spans laid.within
@@ -43,15 +44,16 @@ pub clauses_push : (old lits new : List Lit) (spans : List Span) → new ≡ old
 clauses_push old lits new spans is laid =
     subst (λ n. clauses_of n (spans ++ record { start = length old; end = length n } ∷ []) ≡ clauses_of old spans ++ lits ∷ []) (sym is)
     (map-append (cut (old ++ lits)) spans (record { start = length old; end = length (old ++ lits) } ∷ [])
-      ∙ ap₂ (λ cs c. cs ++ c ∷ []) (clauses_of_longer old lits spans laid.within) (cut_last old lits))
+    ∙ ap₂ (λ cs c. cs ++ c ∷ []) (clauses_of_longer old lits spans laid.within) (cut_last old lits))
 
 pub laid_out_push : (old lits new : List Lit) (spans : List Span) → new ≡ old ++ lits → IsClause lits → IsLaidOut old spans
     → IsLaidOut new (spans ++ record { start = length old; end = length new } ∷ [])
 laid_out_push old lits new spans is clause laid =
     record {
       within = All-push (IsSpan new) spans (record { start = length old; end = length new }) (laid_out_longer old new spans (lits, is) laid).within
-        (record { order = omega (arith, ap length is, length-append old lits); within = omega arith });
-      allowed = subst (All IsClause) (sym (clauses_push old lits new spans is laid)) (All-push IsClause (clauses_of old spans) lits laid.allowed clause) }
+          (record { order = omega (arith, ap length is, length-append old lits); within = omega arith });
+      allowed = subst (All IsClause) (sym (clauses_push old lits new spans is laid)) (All-push IsClause (clauses_of old spans) lits laid.allowed clause);
+    }
 
 -- a clause that a span cuts out is one that a store takes
 pub allowed_at : (lits : List Lit) (spans : List Span) (at : ℕ) (span : Span) → IsLaidOut lits spans → slice_get spans at ≡ Some span → IsClause (cut lits span)

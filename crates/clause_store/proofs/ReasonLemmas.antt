@@ -1,6 +1,6 @@
 -- Reasons stay reasons when assignments come last and go from there, and what going back leaves.
-use Rattle.std.proofs.Common.{◌≡◌, ◌≢◌, ◌⊎◌, ℕ, zero, suc, ◌+◌, ◌<◌, ◌≤◌, Bool, true, false, cond, List, [], ◌∷◌, ◌++◌, length, take, Option, Some, None, refl, sym, ap, ◌∙◌, subst, inl, inr, arith, length-append}
-use Rattle.std.specs.Prelude.{All, filter, nat_le, slice_get}
+use Rattle.std.proofs.Common.{◌≡◌, ℕ, zero, suc, ◌<◌, ◌≤◌, cond, List, [], ◌∷◌, ◌++◌, length, take, Some, None, refl, sym, ap, ◌∙◌, subst, inl, inr, arith, length-append}
+use Rattle.std.specs.Prelude.{nat_le, slice_get}
 use Rattle.std.proofs.lemmas.Bool.{cases_lt, le-leb, lt-leb}
 use Rattle.std.proofs.lemmas.List.{take-append-le, append-nil}
 use Rattle.std.proofs.Math.Seq.{take-append_seam}
@@ -27,17 +27,18 @@ pub trail_of_push : (clauses : List (List Lit)) (steps : List Step) (step : Step
     → ((why : ClauseRef) → step.reason ≡ Some why → IsReasonFor clauses steps step.lit why) → IsTrailOf (steps ++ step ∷ []) clauses
 trail_of_push clauses steps step of new at found why here forced =
     elim (cases_lt at (length steps)) [
-      inl before ↦
-        let low : at ≤ length steps = omega arith in
-        subst (λ earlier. IsReasonFor clauses earlier found.lit why) (sym (take-append-le at steps (step ∷ []) low))
-        (of at found why (sym (slice_get-front steps (step ∷ []) at before) ∙ here) forced)
-    | inr after ↦
-        let within : at < length (steps ++ step ∷ []) = slice_get_within (steps ++ step ∷ []) at found here in
-        let last : at ≡ length steps = omega (arith, length-append steps (step ∷ [])) in
-        let is : step ≡ found = same_Some step found (sym (slice_get-seam steps step) ∙ ap (slice_get (steps ++ step ∷ [])) (sym last) ∙ here) in
-        subst (λ s. IsReasonFor clauses (take at (steps ++ step ∷ [])) s.lit why) is
-        (subst (λ earlier. IsReasonFor clauses earlier step.lit why) (sym (ap (λ n. take n (steps ++ step ∷ [])) last ∙ take-append_seam steps (step ∷ [])))
-          (new why (ap (λ s. s.reason) is ∙ forced))) ]
+      | inl before ↦
+          let low : at ≤ length steps = omega arith in
+          subst (λ earlier. IsReasonFor clauses earlier found.lit why) (sym (take-append-le at steps (step ∷ []) low))
+          (of at found why (sym (slice_get-front steps (step ∷ []) at before) ∙ here) forced)
+      | inr after ↦
+          let within : at < length (steps ++ step ∷ []) = slice_get_within (steps ++ step ∷ []) at found here in
+          let last : at ≡ length steps = omega (arith, length-append steps (step ∷ [])) in
+          let is : step ≡ found = same_Some step found (sym (slice_get-seam steps step) ∙ ap (slice_get (steps ++ step ∷ [])) (sym last) ∙ here) in
+          subst (λ s. IsReasonFor clauses (take at (steps ++ step ∷ [])) s.lit why) is
+          (subst (λ earlier. IsReasonFor clauses earlier step.lit why) (sym (ap (λ n. take n (steps ++ step ∷ [])) last ∙ take-append_seam steps (step ∷ [])))
+          (new why (ap (λ s. s.reason) is ∙ forced)))
+    ]
 
 -- a decision has none
 pub stays_decision : (steps : List Step) (step : Step) → step.reason ≡ None → StaysTrail steps (steps ++ step ∷ [])
@@ -81,4 +82,5 @@ way_goes_on level start now next way above less =
     record {
       kept = sym (up_to_front level next less.last higher) ∙ ap (up_to level) (sym less.steps) ∙ way.kept;
       reached = omega (arith, less.before);
-      stays = λ clauses of. stays_front next less.last clauses (subst (λ s. IsTrailOf s clauses) less.steps (way.stays clauses of)) }
+      stays = λ clauses of. stays_front next less.last clauses (subst (λ s. IsTrailOf s clauses) less.steps (way.stays clauses of));
+    }

@@ -1,8 +1,8 @@
 -- One assignment more or less at the end of a trail: what the answers are then.
-use Rattle.std.proofs.Common.{◌≡◌, ◌≢◌, ◌⊎◌, ℕ, zero, suc, ◌+◌, ◌*◌, ◌-◌, ◌/◌, ◌%◌, ◌<◌, ◌≤◌, max, Bool, true, false, not, cond, eqb, List, [], ◌∷◌, ◌++◌, length, map, take, get_or, Option, Some, None, refl, sym, ap, ap₂, ◌∙◌, subst, inl, inr, arith, length-append}
-use Rattle.std.specs.Prelude.{All, AllPairs, Contains, filter, find, slice_get, is_some}
-use Rattle.std.proofs.lemmas.Bool.{cases_Bool, cases_eq, eqb-true, eqb-false, eq-eqb, ne_eqb, false≢true, true≢false}
-use Rattle.std.proofs.lemmas.List.Elements.{All-cons, All-contains, All-head, All-tail, All-nil, All-push, All-weaker}
+use Rattle.std.proofs.Common.{◌≡◌, ◌≢◌, ℕ, suc, ◌+◌, ◌-◌, ◌<◌, ◌≤◌, max, Bool, true, false, cond, eqb, List, [], ◌∷◌, ◌++◌, length, map, get_or, Option, Some, None, refl, sym, ap, ◌∙◌, subst, inl, inr, arith, length-append}
+use Rattle.std.specs.Prelude.{All, AllPairs, find}
+use Rattle.std.proofs.lemmas.Bool.{cases_eq, eqb-true, eqb-false, eq-eqb, ne_eqb}
+use Rattle.std.proofs.lemmas.List.Elements.{All-cons, All-head, All-tail, All-nil, All-push}
 use Rattle.std.proofs.lemmas.List.Quantifiers.{all_pairs_push}
 use Rattle.std.proofs.lemmas.List.{get_or_append_left, get_or-map, length-map}
 use Rattle.std.proofs.Math.Seq.{get_or-append_seam}
@@ -15,9 +15,9 @@ use Rattle.clause_store.specs.declared.literal.ClauseRef.{ClauseRef}
 use Rattle.clause_store.specs.declared.literal.Value.{Value}
 use Rattle.clause_store.specs.declared.literal.Value.TheVariants.{Yes, No, Unset}
 use Rattle.clause_store.specs.declared.step.Step.{Step}
-use Rattle.clause_store.specs.Clause.{variable, negation, IsOver}
+use Rattle.clause_store.specs.Clause.{variable, IsOver}
 use Rattle.clause_store.specs.Trail.{Assigned, step_of, value_by, value_of, present_level, next_level, RisesFrom, IsTrail}
-use Rattle.clause_store.proofs.LiteralLemmas.{coded, has_first, has_later}
+use Rattle.clause_store.proofs.LiteralLemmas.{coded}
 
 -- ---- the assignment of a variable
 
@@ -86,8 +86,9 @@ pub value_of_kept : (steps : List Step) (step : Step) (lit : Lit) (value : Value
     → value_of (steps ++ step ∷ []) lit ≡ value
 value_of_kept steps step lit value none set is =
     elim (cases_eq (variable step.lit) (variable lit)) [
-      inl same ↦ absurd (set (sym is ∙ ap (λ o. value_by o lit) (ap (step_of steps) (sym same) ∙ none)))
-    | inr other ↦ value_of_other steps step lit other ∙ is ]
+      | inl same ↦ absurd (set (sym is ∙ ap (λ o. value_by o lit) (ap (step_of steps) (sym same) ∙ none)))
+      | inr other ↦ value_of_other steps step lit other ∙ is
+    ]
 
 -- ---- levels
 
@@ -153,7 +154,8 @@ trail_push vars steps step trail over none level =
     record {
       over = All-push (λ s. IsOver vars s.lit) steps step trail.over over;
       once = once_push steps step trail.once none;
-      levels = rises_push 0 steps step trail.levels (level ∙ ap (λ n. next_level n step.reason) (present_end steps trail.levels)) }
+      levels = rises_push 0 steps step trail.levels (level ∙ ap (λ n. next_level n step.reason) (present_end steps trail.levels));
+    }
 
 -- the last one goes: what is true of the others
 pub trail_front : (vars : ℕ) (steps : List Step) (step : Step) → IsTrail (record { vars = vars; steps = steps ++ step ∷ [] }) → IsTrail (record { vars = vars; steps = steps })
@@ -161,21 +163,22 @@ trail_front vars steps step trail =
     record {
       over = λ k d within. subst (λ s. IsOver vars s.lit) (get_or_append_left steps (step ∷ []) d k within) (trail.over k d (omega (arith, length-append steps (step ∷ []))));
       once = λ i j d before within.
-        let first : i < length steps = omega arith in
-        subst (λ s. variable s.lit ≢ variable (get_or steps j d).lit) (get_or_append_left steps (step ∷ []) d i first)
-        (subst (λ s. variable (get_or (steps ++ step ∷ []) i d).lit ≢ variable s.lit) (get_or_append_left steps (step ∷ []) d j within)
+          let first : i < length steps = omega arith in
+          subst (λ s. variable s.lit ≢ variable (get_or steps j d).lit) (get_or_append_left steps (step ∷ []) d i first)
+          (subst (λ s. variable (get_or (steps ++ step ∷ []) i d).lit ≢ variable s.lit) (get_or_append_left steps (step ∷ []) d j within)
           (trail.once i j d before (omega (arith, length-append steps (step ∷ [])))));
-      levels = (rises_front 0 steps step trail.levels).0 }
+      levels = (rises_front 0 steps step trail.levels).0;
+    }
 
 -- its variable is unset then
 pub last_unset : (vars : ℕ) (steps : List Step) (step : Step) → IsTrail (record { vars = vars; steps = steps ++ step ∷ [] }) → step_of steps (variable step.lit) ≡ None
 last_unset vars steps step trail =
     find_none (λ s. eqb (variable s.lit) (variable step.lit)) steps
     (λ k d within.
-      ne_eqb (variable (get_or steps k d).lit) (variable step.lit)
-      (subst (λ s. variable s.lit ≢ variable step.lit) (get_or_append_left steps (step ∷ []) d k within)
-        (subst (λ s. variable (get_or (steps ++ step ∷ []) k d).lit ≢ variable s.lit) (get_or-append_seam steps step [] d)
-          (trail.once k (length steps) d within (omega (arith, length-append steps (step ∷ [])))))))
+    ne_eqb (variable (get_or steps k d).lit) (variable step.lit)
+    (subst (λ s. variable s.lit ≢ variable step.lit) (get_or_append_left steps (step ∷ []) d k within)
+    (subst (λ s. variable (get_or (steps ++ step ∷ []) k d).lit ≢ variable s.lit) (get_or-append_seam steps step [] d)
+    (trail.once k (length steps) d within (omega (arith, length-append steps (step ∷ [])))))))
 
 -- so there are at most as many assignments as variables
 abbrev place_of : Step → ℕ
@@ -188,26 +191,29 @@ pub trail_fits : (trail : Assigned) → IsTrail trail → length trail.steps ≤
 trail_fits trail is =
     subst (λ n. n ≤ trail.vars) (length-map trail.steps place_of)
     (length-le_from_distinct_below (map place_of trail.steps) trail.vars
-      (IsDistinct-from_apart eqb (map place_of trail.steps) apart) below)
+    (IsDistinct-from_apart eqb (map place_of trail.steps) apart) below)
   where
     at : (k d : ℕ) → k < length trail.steps → get_or (map place_of trail.steps) k d ≡ place_of (get_or trail.steps k blank)
     at k d within = get_or-map place_of trail.steps k blank d within
+
     over : (k : ℕ) → k < length trail.steps → IsOver trail.vars (get_or trail.steps k blank).lit
     over k within = is.over k blank within
+
     apart : (i j d : ℕ) → i < j → j < length (map place_of trail.steps) → eqb (get_or (map place_of trail.steps) i d) (get_or (map place_of trail.steps) j d) ≡ false
     apart i j d before within =
-      let later : j < length trail.steps = omega (arith, length-map trail.steps place_of) in
-      let first : i < length trail.steps = omega arith in
-      let one = over i first in let two = over j later in
-      let differ : variable (get_or trail.steps i blank).lit ≢ variable (get_or trail.steps j blank).lit = is.once i j blank before later in
-      rw (at i d first, at j d later) (ne_eqb (place_of (get_or trail.steps i blank)) (place_of (get_or trail.steps j blank)) (λ e. differ (omega (arith, one.first, two.first, e))))
+        let later : j < length trail.steps = omega (arith, length-map trail.steps place_of) in
+        let first : i < length trail.steps = omega arith in
+        let one = over i first in let two = over j later in
+        let differ : variable (get_or trail.steps i blank).lit ≢ variable (get_or trail.steps j blank).lit = is.once i j blank before later in
+        rw (at i d first, at j d later) (ne_eqb (place_of (get_or trail.steps i blank)) (place_of (get_or trail.steps j blank)) (λ e. differ (omega (arith, one.first, two.first, e))))
+
     below : (q : ℕ) → list_any (eqb q) (map place_of trail.steps) ≡ true → q < trail.vars
     below q any =
-      let some = Any-from_list_any (eqb q) (map place_of trail.steps) any in
-      let within : some.0 < length trail.steps = omega (arith, some.2, length-map trail.steps place_of) in
-      let o = over some.0 within in
-      let e : q ≡ place_of (get_or trail.steps some.0 blank) = eqb-true q some.1 some.4 ∙ sym some.3 ∙ at some.0 some.1 within in
-      omega (arith, e, o.first, o.last)
+        let some = Any-from_list_any (eqb q) (map place_of trail.steps) any in
+        let within : some.0 < length trail.steps = omega (arith, some.2, length-map trail.steps place_of) in
+        let o = over some.0 within in
+        let e : q ≡ place_of (get_or trail.steps some.0 blank) = eqb-true q some.1 some.4 ∙ sym some.3 ∙ at some.0 some.1 within in
+        omega (arith, e, o.first, o.last)
 
 -- a level is at most the number of assignments
 pub end_level-le : (level : ℕ) (steps : List Step) → RisesFrom level steps → end_level level steps ≤ level + length steps

@@ -1,17 +1,15 @@
 -- The answers of a trail when assignments come and go.
-use Rattle.std.proofs.Common.{◌≡◌, ◌≢◌, ◌⊎◌, ℕ, zero, suc, ◌+◌, ◌*◌, ◌-◌, ◌/◌, ◌%◌, ◌<◌, ◌≤◌, Bool, true, false, not, cond, eqb, List, [], ◌∷◌, ◌++◌, length, map, take, get_or, Option, Some, None, refl, sym, ap, ap₂, ◌∙◌, subst, inl, inr, arith, length-append}
-use Rattle.std.specs.Prelude.{All, AllPairs, Any, Contains, filter, find, slice_get, IsTrue, IsSome, is_some}
-use Rattle.std.proofs.lemmas.Bool.{cases_Bool, eqb-true, eqb-false, eq-eqb, ne_eqb, cases_eq, false≢true, true≢false}
+use Rattle.std.proofs.Common.{◌≡◌, ◌≢◌, ℕ, zero, suc, ◌+◌, ◌*◌, ◌/◌, ◌%◌, Bool, true, false, not, cond, eqb, List, [], ◌∷◌, ◌++◌, Option, Some, None, refl, sym, ap, ◌∙◌, subst, inl, inr, arith}
+use Rattle.std.specs.Prelude.{find, slice_get, IsSome}
+use Rattle.std.proofs.lemmas.Bool.{cases_Bool, eqb-true, eqb-false, eq-eqb, ne_eqb, cases_eq, false≢true}
 use Rattle.std.proofs.lemmas.Option.{same_Some}
 use Rattle.std.proofs.lemmas.List.FromFn.{get_or-map-range_with_len}
 use Rattle.clause_store.proofs.LiteralLemmas.{coded}
-use Rattle.clause_store.specs.declared.literal.Lit.{Lit}
-use Rattle.clause_store.specs.declared.literal.ClauseRef.{ClauseRef}
 use Rattle.clause_store.specs.declared.literal.Value.{Value}
 use Rattle.clause_store.specs.declared.literal.Value.TheVariants.{Yes, No, Unset}
 use Rattle.clause_store.specs.declared.step.Step.{Step}
-use Rattle.clause_store.specs.Clause.{variable, is_negated, negation, truth, makes_true, IsOver}
-use Rattle.clause_store.specs.Trail.{Assigned, step_of, value_by, value_of, is_yes, values_of, IsTotal, IsReasonFor, IsTrailOf}
+use Rattle.clause_store.specs.Clause.{variable, is_negated, truth, makes_true}
+use Rattle.clause_store.specs.Trail.{step_of, value_by, value_of, is_yes, values_of}
 use Rattle.clause_store.specs.Laws.{TrailStays, TotalMeans}
 
 pub slice_get-append : {X : Type 0} (xs ys : List X) (k : ℕ) (x : X) → slice_get xs k ≡ Some x → slice_get (xs ++ ys) k ≡ Some x
@@ -48,27 +46,30 @@ same_code : (one two : ℕ) → one / 2 ≡ two / 2
     → cond (eqb (two % 2) 1) (not (eqb one (2 * (two / 2)))) (eqb one (2 * (two / 2))) ≡ eqb one two
 same_code one two same =
     elim (cases_Bool (eqb (two % 2) 1)) [
-      inl odd ↦ rw odd (let two_odd : two % 2 ≡ 1 = eqb-true (two % 2) 1 odd in
-        elim (cases_eq one (2 * (two / 2))) [
-          inl even ↦ rw (eq-eqb one (2 * (two / 2)) even, ne_eqb one two (λ e. omega arith)) refl
-        | inr other ↦ rw (ne_eqb one (2 * (two / 2)) other, eq-eqb one two (omega arith)) refl ])
-    | inr even ↦ rw even (let two_even : two % 2 ≢ 1 = eqb-false (two % 2) 1 even in
-        let same_two : 2 * (two / 2) ≡ two = omega arith in ap (eqb one) same_two) ]
+      | inl odd ↦ rw odd (let two_odd : two % 2 ≡ 1 = eqb-true (two % 2) 1 odd in
+          elim (cases_eq one (2 * (two / 2))) [
+            | inl even ↦ rw (eq-eqb one (2 * (two / 2)) even, ne_eqb one two (λ e. omega arith)) refl
+            | inr other ↦ rw (ne_eqb one (2 * (two / 2)) other, eq-eqb one two (omega arith)) refl
+          ])
+      | inr even ↦ rw even (let two_even : two % 2 ≢ 1 = eqb-false (two % 2) 1 even in
+          let same_two : 2 * (two / 2) ≡ two = omega arith in ap (eqb one) same_two)
+    ]
 
 pub total_means : TotalMeans
 total_means trail lit total over = go (step_of trail.steps (variable lit)) refl (total (variable lit) over.first over.last)
   where
     means : (step : Step) → step_of trail.steps (variable lit) ≡ Some step → makes_true (values_of trail) lit ≡ is_yes (value_of trail.steps lit)
     means step is =
-      let half : (2 * variable lit) / 2 ≡ variable lit = omega arith in
-      let read : truth (values_of trail) (variable lit) ≡ eqb step.lit.0 (2 * variable lit) =
+        let half : (2 * variable lit) / 2 ≡ variable lit = omega arith in
+        let read : truth (values_of trail) (variable lit) ≡ eqb step.lit.0 (2 * variable lit) =
         get_or-map-range_with_len (λ var. is_yes (value_of trail.steps (coded (2 * var)))) 0 (trail.vars + 1) (variable lit) (variable lit) false (omega (arith, over.last)) (omega arith)
         ∙ ap (λ v. is_yes (value_by (step_of trail.steps v) (coded (2 * variable lit)))) half
         ∙ ap (λ o. is_yes (value_by o (coded (2 * variable lit)))) is ∙ is_yes_cond (eqb step.lit.0 (2 * variable lit)) in
-      ap (λ t. cond (is_negated lit) (not t) t) read
-      ∙ same_code step.lit.0 lit.0 (eqb-true (variable step.lit) (variable lit) (find_passes (λ s. eqb (variable s.lit) (variable lit)) trail.steps step is))
-      ∙ sym (ap (λ o. is_yes (value_by o lit)) is ∙ is_yes_cond (eqb step.lit.0 lit.0))
+        ap (λ t. cond (is_negated lit) (not t) t) read
+        ∙ same_code step.lit.0 lit.0 (eqb-true (variable step.lit) (variable lit) (find_passes (λ s. eqb (variable s.lit) (variable lit)) trail.steps step is))
+        ∙ sym (ap (λ o. is_yes (value_by o lit)) is ∙ is_yes_cond (eqb step.lit.0 lit.0))
+
     go : (o : Option Step) → step_of trail.steps (variable lit) ≡ o → IsSome o → (makes_true (values_of trail) lit ≡ true → value_of trail.steps lit ≡ Yes) × (value_of trail.steps lit ≡ Yes → makes_true (values_of trail) lit ≡ true)
     go None is some = absurd (false≢true some)
     go (Some step) is some =
-      (λ t. (yes_iff (value_of trail.steps lit)).0 (sym (means step is) ∙ t), λ t. means step is ∙ (yes_iff (value_of trail.steps lit)).1 t)
+        (λ t. (yes_iff (value_of trail.steps lit)).0 (sym (means step is) ∙ t), λ t. means step is ∙ (yes_iff (value_of trail.steps lit)).1 t)

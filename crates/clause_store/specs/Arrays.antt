@@ -1,9 +1,8 @@
 -- How a trail keeps its answers in arrays. No public clause cites this module.
 use Rattle.std.specs.Prelude.{◌≡◌, ◌<◌, ◌≤◌, ◌+◌, ◌*◌, ◌^◌, ◌++◌, ◌∷◌, [], ℕ, List, length, slice_index_or, Option}
-use Rattle.clause_store.specs.declared.literal.Lit.{Lit}
 use Rattle.clause_store.specs.declared.literal.Value.{Value}
 use Rattle.clause_store.specs.declared.step.Step.{Step}
-use Rattle.clause_store.specs.Trail.{Assigned, IsTrail, step_of, value_of, present_level}
+use Rattle.clause_store.specs.Trail.{IsTrail, step_of, value_of, present_level}
 
 -- an array holds the answers of a function from 0 on
 pub record IsTable {X : Type 0} (answer : ℕ → X) (size : ℕ) (table : List X) : Type 0 where

@@ -1,6 +1,6 @@
 -- Literals and clauses, and when an assignment makes them true. An assignment has a truth value for each
 -- variable; the one at place 0 belongs to no variable, and past its end everything is false.
-use Rattle.std.specs.Prelude.{◌≡◌, ◌≢◌, ◌≤◌, ◌+◌, ◌-◌, ◌/◌, ◌%◌, ◌==◌, ℕ, Bool, false, not, if◌then◌else◌, List, All, AllPairs, Any, Contains, slice_index_or, IsTrue}
+use Rattle.std.specs.Prelude.{◌≢◌, ◌≤◌, ◌+◌, ◌-◌, ◌/◌, ◌%◌, ◌==◌, ℕ, Bool, false, not, if◌then◌else◌, List, All, AllPairs, Any, Contains, slice_index_or, IsTrue}
 use Rattle.clause_store.specs.declared.literal.Lit.{Lit}
 
 -- the variable of a literal
@@ -47,6 +47,10 @@ HasAll clause part = All (Contains clause) part
 pub record IsOver (vars : ℕ) (lit : Lit) : Type 0 where
   pub first : 1 ≤ variable lit
   pub last : variable lit ≤ vars
+
+-- the variables of all clauses are of 1 to `vars`
+abbrev pub AreOver : ℕ → List (List Lit) → Type 0
+AreOver vars clauses = All (All (IsOver vars)) clauses
 
 -- a clause that a store takes: no variable twice, and none 0
 pub record IsClause (clause : List Lit) : Type 0 where

@@ -1,5 +1,5 @@
 -- What clauses say: by all assignments, and by unit propagation alone.
-use Rattle.std.specs.Prelude.{◌≡◌, ◌≢◌, ◌≤◌, ◌⊎◌, ◌==◌, Bool, not, List, [], ◌∷◌, ◌++◌, length, map, filter, All, Any, Contains, ⊤}
+use Rattle.std.specs.Prelude.{◌≢◌, ◌≤◌, ◌⊎◌, ◌==◌, Bool, not, List, [], ◌∷◌, ◌++◌, length, map, filter, All, Any, Contains, ⊤}
 use Rattle.clause_store.specs.declared.literal.Lit.{Lit}
 use Rattle.clause_store.specs.Clause.{negation, HoldsIn, Meets, HasAll, HasNoVariableTwice}
 

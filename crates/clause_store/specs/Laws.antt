@@ -1,8 +1,7 @@
 -- Laws of the words of this crate. Each is a clause of a function in src/laws.rt.
-use Rattle.std.specs.Prelude.{◌≡◌, ◌≢◌, ◌≤◌, ◌++◌, ℕ, Bool, List, [], ◌∷◌, All, AllPairs, Contains, IsTrue, ◌↔◌}
+use Rattle.std.specs.Prelude.{◌≡◌, ◌≢◌, ◌++◌, Bool, List, [], ◌∷◌, All, AllPairs, Contains, IsTrue, ◌↔◌}
 use Rattle.clause_store.specs.declared.literal.Lit.{Lit}
 use Rattle.clause_store.specs.declared.literal.Value.TheVariants.{Yes}
-use Rattle.clause_store.specs.declared.step.Step.{Step}
 use Rattle.clause_store.specs.Clause.{makes_true, IsTrueIn, Meets, HasAll, IsOver}
 use Rattle.clause_store.specs.Entailment.{Follows, InClosure, Refutes, Absorbs, AreUnits, IsUnit, negations}
 use Rattle.clause_store.specs.Trail.{Assigned, IsTotal, KeepsTrails, value_of, values_of}

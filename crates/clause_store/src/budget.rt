@@ -7,7 +7,7 @@ use std::alloc::Global;
 use std::marker::Model;
 
 /// How many clauses may be counted, and the clauses that were.
-#[derive(Drop)]
+#[derive(Debug, Drop)]
 pub struct Budget {
     limit: u32,
     units: Units,

@@ -12,7 +12,7 @@ use std::marker::Model;
 pub type Units = List<Clause>;
 
 /// A disjunction of literals, which contracts see as their list.
-#[derive(Drop)]
+#[derive(Debug, Drop)]
 pub struct Clause {
     held: Option<SmallVec<Lit, 4>>,
 }

@@ -6,3 +6,10 @@ pub enum Says {
     /// A clause was written.
     Clause,
 }
+
+/// A clause of one to three literals by their codes, with zeros after them.
+#[derive(Debug, Drop, Clone, Copy, PartialEq, Eq)]
+pub struct Short {
+    /// The codes.
+    pub lits: [u32; 3],
+}

@@ -12,7 +12,7 @@ use std::alloc::Global;
 use std::marker::Model;
 
 /// Assignments of variables in order, each a decision or forced by a clause.
-#[derive(Drop)]
+#[derive(Debug, Drop)]
 pub struct Trail {
     vars: u32,
     steps: Vec<Step>,

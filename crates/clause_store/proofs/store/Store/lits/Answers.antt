@@ -1,4 +1,4 @@
-use Rattle.std.proofs.Common.{ap, subst, sym}
+use Rattle.std.proofs.Common.{subst, sym}
 use Rattle.clause_store.specs.Clause.{IsClause}
 use Rattle.clause_store.specs.Layout.{cut}
 use Rattle.clause_store.proofs.LayoutLemmas.{allowed_at}

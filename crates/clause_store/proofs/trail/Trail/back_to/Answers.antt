@@ -1,13 +1,14 @@
-use Rattle.std.proofs.Common.{◌≡◌, ◌∙◌, sym, ap, ap₂, subst, ◌<◌, ◌≤◌}
-use Rattle.clause_store.specs.Trail.{Assigned, up_to, present_level}
-use Rattle.clause_store.proofs.ReasonLemmas.{IsOnTheWay, way_goes_on, up_to_all}
+use Rattle.std.proofs.Common.{◌∙◌, sym, ap₂, subst, ◌<◌, ◌≤◌}
+use Rattle.clause_store.specs.Trail.{Assigned}
+use Rattle.clause_store.proofs.ReasonLemmas.{way_goes_on, up_to_all}
 use Rattle.clause_store.proofs.trail.Trail.back_to.Goals as goal
 
 pub loop-self-preserved : goal.loop-self-preserved
-loop-self-preserved c =
-    (c.undo.ensures.vars ∙ c.loop-self.invariant.0,
-      way_goes_on c.args.level c.args.self.now.steps c.loop-self.self.steps c.undo.new.self.steps c.loop-self.invariant.1
-      (subst (λ level. c.args.level < level) c.level.ensures.level c.loop-self-test.true) c.undo.ensures.steps)
+loop-self-preserved c = (
+  c.undo.ensures.vars ∙ c.loop-self.invariant.0,
+  way_goes_on c.args.level c.args.self.now.steps c.loop-self.self.steps c.undo.new.self.steps c.loop-self.invariant.1
+      (subst (λ level. c.args.level < level) c.level.ensures.level c.loop-self-test.true) c.undo.ensures.steps,
+)
 
 pub returns-clause-steps : goal.returns-clause-steps
 returns-clause-steps c =

@@ -1,4 +1,4 @@
-use Rattle.std.proofs.Common.{◌+◌, None, arith, subst, sym, refl}
+use Rattle.std.proofs.Common.{◌+◌, None, subst, sym, refl}
 use Rattle.clause_store.specs.Trail.{StaysTrail}
 use Rattle.clause_store.proofs.ReasonLemmas.{stays_decision}
 use Rattle.clause_store.proofs.trail.Trail.decide.Goals as goal

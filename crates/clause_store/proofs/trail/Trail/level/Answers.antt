@@ -7,7 +7,7 @@ pub returns-in-len1-up-clause-level : goal.returns-in-len1-up-clause-level
 returns-in-len1-up-clause-level c =
     rw c.as_slice.ensures.value
     (last_level 0 c.self.inside.steps.items _ (subst (λ steps. 1 ≤ length steps) c.as_slice.ensures.value c.in-len1-up.len_at_least)
-      ∙ sym (present_end c.self.inside.steps.items c.self.invariant.trail.levels) ∙ ap (λ trail. present_level trail.steps) c.self.view_is)
+    ∙ sym (present_end c.self.inside.steps.items c.self.invariant.trail.levels) ∙ ap (λ trail. present_level trail.steps) c.self.view_is)
 
 pub returns-in-len1-up-clause-few : goal.returns-in-len1-up-clause-few
 returns-in-len1-up-clause-few c =

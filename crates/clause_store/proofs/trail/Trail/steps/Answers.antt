@@ -1,4 +1,3 @@
-use Rattle.std.proofs.Common.{subst}
 use Rattle.clause_store.proofs.StepLemmas.{trail_fits}
 use Rattle.clause_store.proofs.trail.Trail.steps.Goals as goal
 

@@ -1,4 +1,4 @@
-use Rattle.std.proofs.Common.{sym, subst, ap, ◌∙◌}
+use Rattle.std.proofs.Common.{subst}
 use Rattle.clause_store.specs.Arrays.{IsWithoutLast}
 use Rattle.clause_store.proofs.ArrayLemmas.{kept_front, without_last}
 use Rattle.clause_store.proofs.trail.Trail.undo.Goals as goal
