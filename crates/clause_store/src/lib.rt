@@ -19,3 +19,6 @@ pub use says::{Says, Short};
 pub use step::Step;
 pub use store::Store;
 pub use trail::Trail;
+
+#[cfg(test)]
+mod tests;

@@ -1,7 +1,7 @@
 // The assignments in order, and beside them two arrays that answer at once: the assignment of each
 // variable and the value of each literal. Each variable is assigned at most once, so the room that
 // `open` reserves for one assignment a variable always suffices.
-ghost use Rattle.std.specs.Prelude.{◌≡◌, ◌<◌, ◌≤◌, ◌^◌, [], ◌∷◌, ◌++◌, ◌+◌, length, Some, None, IfOk};
+ghost use Rattle.std.specs.Prelude.{◌≡◌, ◌<◌, ◌≤◌, ◌^◌, [], ◌∷◌, ◌++◌, ◌+◌, length, Some, None, IfOk, IsTrue, ◌↔◌};
 ghost use Rattle.clause_store.specs.Clause.{IsOver};
 ghost use Rattle.clause_store.specs.Trail.{IsTrail, IsTrailOf, IsReasonFor, StaysTrail, value_of, reason_of, level_of, present_level, next_level, up_to};
 ghost use Rattle.clause_store.specs.Arrays.{IsWithoutLast};
@@ -56,6 +56,14 @@ impl Trail {
         ensures few { result < 2 ^ 31 }
     {
         self.vars
+    }
+
+    /// Whether the variable of a literal is one of the trail's.
+    pub fn has(&self, lit: Lit) -> bool
+        ensures { IsTrue result ↔ IsOver self.now.vars lit }
+    {
+        let var = lit.var().0;
+        1 <= var && var <= self.vars
     }
 
     /// The assignments in order.
