@@ -1,0 +1,52 @@
+// The laws of closure, units and trails, for the crates above. They do nothing when they run.
+ghost use Rattle.clause_store.specs.Laws.{ClosureGrows, RefutingGrows, AbsorbingGrows, ContainingIsAbsorbed, UnitsDiffer, UnitsGrow, ClosureHolds, RefutedFollows, TrailStays, TotalMeans};
+
+/// The closure only grows with the clauses and with the literals.
+pub fn closure_grows()
+    ensures { ClosureGrows }
+{}
+
+/// What is refuted stays refuted by more clauses and from more literals.
+pub fn refuting_grows()
+    ensures { RefutingGrows }
+{}
+
+/// What is absorbed stays absorbed by more clauses.
+pub fn absorbing_grows()
+    ensures { AbsorbingGrows }
+{}
+
+/// A clause that has all literals of one of the clauses is absorbed.
+pub fn containing_is_absorbed()
+    ensures { ContainingIsAbsorbed }
+{}
+
+/// No clause of a list of units has all literals of an earlier one.
+pub fn units_differ()
+    ensures { UnitsDiffer }
+{}
+
+/// A unit beside all that came before it makes a list of units longer.
+pub fn units_grow()
+    ensures { UnitsGrow }
+{}
+
+/// What propagation gives from true literals is true.
+pub fn closure_holds()
+    ensures { ClosureHolds }
+{}
+
+/// A clause whose negated literals are refuted follows.
+pub fn refuted_follows()
+    ensures { RefutedFollows }
+{}
+
+/// A clause that is added leaves a trail of the store one.
+pub fn trail_stays()
+    ensures { TrailStays }
+{}
+
+/// The assignment of a total trail makes just the literals true that are true on the trail.
+pub fn total_means()
+    ensures { TotalMeans }
+{}
