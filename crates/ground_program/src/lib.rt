@@ -13,7 +13,7 @@ pub use laws::{
     answer_sets_are_least, opening_pair_encloses, some_rule_fails, within_is_reflexive,
     within_is_transitive,
 };
-pub use meaning::{holds_in, is_model};
+pub use meaning::{has_atom, holds_in, is_model};
 pub use pair::Pair;
 pub use plain_list::{Copied, List, NoMemory};
 pub use program::{

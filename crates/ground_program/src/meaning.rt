@@ -113,7 +113,8 @@ fn lit_counts(lit: AtomLit, by: &[bool], set: &[bool]) -> bool
     }
 }
 
-fn has_atom(set: &[bool], atom: u32) -> bool
+/// Whether the atom is in the set. One past its end isn't.
+pub fn has_atom(set: &[bool], atom: u32) -> bool
     ensures { result ≡ has set.now atom }
 {
     set.get(atom as usize).copied().unwrap_or(false)

@@ -1,8 +1,8 @@
 // Which atoms are in a set.
-ghost use Rattle.std.specs.Prelude.{◌≡◌, ◌↔◌, All, IsTrue};
-ghost use Rattle.ground_program.specs.Meaning.{IsIn, MeetsCompute, has};
+ghost use Rattle.std.specs.Prelude.{◌↔◌, All, IsTrue};
+ghost use Rattle.ground_program.specs.Meaning.{IsIn, MeetsCompute};
 
-use ground_program::{Program, Set, Weighted};
+use ground_program::{Program, Set, Weighted, has_atom};
 
 /// Whether the set has each atom that the program asks for and none that it forbids.
 pub fn meets_compute(program: &Program, set: &Set) -> bool
@@ -29,11 +29,4 @@ pub fn has_body(set: &[bool], body: &[Weighted]) -> bool
     ensures { IsTrue result ↔ All (λ part. IsIn set.now part.lit.atom) body.now }
 {
     body.iter().all(|part| has_atom(set, part.lit.atom))
-}
-
-/// Whether the atom is in the set, which has none past its positions.
-pub fn has_atom(set: &[bool], atom: u32) -> bool
-    ensures { result ≡ has set.now atom }
-{
-    set.get(atom as usize).copied().unwrap_or(false)
 }
