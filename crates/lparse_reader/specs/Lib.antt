@@ -1,0 +1,9 @@
+pub mod Tokens
+pub mod Fields
+pub mod Reading
+pub mod Refusal
+pub mod Pieces
+pub mod Due
+pub mod Refuses
+pub mod Text
+pub mod TextLaws

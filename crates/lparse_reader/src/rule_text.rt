@@ -1,0 +1,276 @@
+// Rules.
+ghost use Rattle.std.specs.Prelude.{◌≡◌, [], ◌∷◌, IfOk};
+ghost use Rattle.lparse_reader.specs.Fields.{Gives, behind, counted_at, atom_at, part_at, weighed_at};
+ghost use Rattle.lparse_reader.specs.Reading.{kind_or_end_at, counts_at, body_at, heads_at, basic_at, constraint_at, weight_at, many_heads_at, rule_at, rule_or_end_at, all_at};
+
+use crate::fault::{Fault, Stop, TextFault};
+use crate::token_text::{atom_of, fault_here, next_token, number_of};
+use ground_program::{AtomLit, Atoms, Body, Kind, Rule, Rules, Weighted};
+use plain_list::{List, NoMemory};
+use std::alloc::Global;
+
+/// How many literals a body has.
+#[derive(Clone, Copy, Debug, PartialEq, Eq)]
+pub struct Counts {
+    /// All of them.
+    pub literals: u32,
+    /// The negative ones.
+    pub negatives: u32,
+    /// The others.
+    pub positives: u32,
+}
+
+/// All rules.
+pub fn rules_of(alloc: Global, bytes: &[u8]) -> Result<(Rules, &[u8]), Stop>
+    ensures { Gives (λ x. (x.0, x.1.now)) result (all_at rule_or_end_at bytes.now) }
+{
+    let mut rules = List::open();
+    let mut rest = bytes;
+    // Each rule takes a byte at least, and so does the end.
+    for _ in 0..bytes.len() {
+        let (rule, after) = rule_or_end_of(alloc, rest)?;
+        rest = after;
+        match rule {
+            None => return Ok((rules, rest)),
+            Some(rule) => rules.push(alloc, rule)?,
+        }
+    }
+    Err(Stop::Fault(Fault::Ended))
+}
+
+/// A rule, or nothing at a 0.
+#[tactic(auto, unfolding(crate::specs::Reading::rule_or_end_at))]
+fn rule_or_end_of(alloc: Global, bytes: &[u8]) -> Result<(Option<Rule>, &[u8]), Stop>
+    ensures { Gives (λ x. (x.0, x.1.now)) result (rule_or_end_at bytes.now) }
+{
+    let (kind, rest) = kind_or_end_of(bytes)?;
+    match kind {
+        None => Ok((None, rest)),
+        Some(kind) => {
+            let (rule, rest) = rule_of(alloc, kind, rest)?;
+            Ok((Some(rule), rest))
+        }
+    }
+}
+
+/// A kind, or nothing at a 0.
+#[tactic(auto, unfolding(crate::specs::Reading::kind_or_end_at))]
+fn kind_or_end_of(bytes: &[u8]) -> Result<(Option<Kind>, &[u8]), Stop>
+    ensures { Gives (λ x. (x.0, x.1.now)) result (kind_or_end_at bytes.now) }
+{
+    let (number, rest) = number_of(bytes)?;
+    match number {
+        0 => Ok((None, rest)),
+        1 => Ok((Some(Kind::Basic), rest)),
+        2 => Ok((Some(Kind::Constraint), rest)),
+        3 => Ok((Some(Kind::Choice), rest)),
+        5 => Ok((Some(Kind::Weight), rest)),
+        8 => Ok((Some(Kind::Disjunctive), rest)),
+        6 => Err(fault_here(TextFault::MinimizeRule, next_token(bytes), 6)),
+        _ => Err(fault_here(TextFault::UnknownKind, next_token(bytes), number as u64)),
+    }
+}
+
+/// The rule of a kind.
+fn rule_of(alloc: Global, kind: Kind, bytes: &[u8]) -> Result<(Rule, &[u8]), Stop>
+    ensures { Gives (λ x. (x.0, x.1.now)) result (rule_at kind bytes.now) }
+{
+    match kind {
+        Kind::Basic => basic_rule_of(alloc, bytes),
+        Kind::Constraint => constraint_rule_of(alloc, bytes),
+        Kind::Choice => many_heads_rule_of(alloc, kind, bytes),
+        Kind::Weight => weight_rule_of(alloc, bytes),
+        Kind::Disjunctive => many_heads_rule_of(alloc, kind, bytes),
+    }
+}
+
+/// The fields of a basic rule.
+#[tactic(auto, unfolding(crate::specs::Reading::basic_at))]
+fn basic_rule_of(alloc: Global, bytes: &[u8]) -> Result<(Rule, &[u8]), Stop>
+    ensures { Gives (λ x. (x.0, x.1.now)) result (basic_at bytes.now) }
+{
+    let (head, rest) = atom_of(bytes)?;
+    let (counts, rest) = counts_of(rest)?;
+    let (body, rest) = body_of(alloc, counts, rest)?;
+    let heads = one_head(alloc, head)?;
+    let rule = Rule {
+        kind: Kind::Basic,
+        heads,
+        bound: counts.literals,
+        body,
+    };
+    Ok((rule, rest))
+}
+
+/// The fields of a constraint rule.
+#[tactic(auto, unfolding(crate::specs::Reading::constraint_at))]
+fn constraint_rule_of(alloc: Global, bytes: &[u8]) -> Result<(Rule, &[u8]), Stop>
+    ensures { Gives (λ x. (x.0, x.1.now)) result (constraint_at bytes.now) }
+{
+    let (head, rest) = atom_of(bytes)?;
+    let (counts, after_counts) = counts_of(rest)?;
+    let (bound, after_bound) = number_of(after_counts)?;
+    let (body, rest) = body_of(alloc, counts, after_bound)?;
+    let heads = one_head(alloc, head)?;
+    let rule = Rule {
+        kind: Kind::Constraint,
+        heads,
+        bound,
+        body,
+    };
+    Ok((rule, rest))
+}
+
+/// The fields of a weight rule.
+#[tactic(auto, unfolding(crate::specs::Reading::weight_at))]
+fn weight_rule_of(alloc: Global, bytes: &[u8]) -> Result<(Rule, &[u8]), Stop>
+    ensures { Gives (λ x. (x.0, x.1.now)) result (weight_at bytes.now) }
+{
+    let (head, rest) = atom_of(bytes)?;
+    let (bound, rest) = number_of(rest)?;
+    let (counts, rest) = counts_of(rest)?;
+    let (body, rest) = body_of(alloc, counts, rest)?;
+    let (body, rest) = weighed_of(alloc, body.as_slice(), rest)?;
+    let heads = one_head(alloc, head)?;
+    let rule = Rule {
+        kind: Kind::Weight,
+        heads,
+        bound,
+        body,
+    };
+    Ok((rule, rest))
+}
+
+/// The fields of a choice or a disjunctive rule.
+#[tactic(auto, unfolding(crate::specs::Reading::many_heads_at))]
+fn many_heads_rule_of(alloc: Global, kind: Kind, bytes: &[u8]) -> Result<(Rule, &[u8]), Stop>
+    ensures { Gives (λ x. (x.0, x.1.now)) result (many_heads_at kind bytes.now) }
+{
+    let (heads, rest) = heads_of(alloc, bytes)?;
+    let (counts, rest) = counts_of(rest)?;
+    let (body, rest) = body_of(alloc, counts, rest)?;
+    let rule = Rule {
+        kind,
+        heads,
+        bound: counts.literals,
+        body,
+    };
+    Ok((rule, rest))
+}
+
+/// The number of literals, and how many of them are negative.
+#[tactic(auto, unfolding(crate::specs::Reading::counts_at))]
+fn counts_of(bytes: &[u8]) -> Result<(Counts, &[u8]), Stop>
+    ensures { Gives (λ x. (x.0, x.1.now)) result (counts_at bytes.now) }
+{
+    let (literals, middle) = number_of(bytes)?;
+    let (negatives, rest) = number_of(middle)?;
+    if literals < negatives {
+        return Err(fault_here(
+            TextFault::NegativeCount,
+            next_token(middle),
+            negatives as u64,
+        ));
+    }
+    let counts = Counts {
+        literals,
+        negatives,
+        positives: literals - negatives,
+    };
+    Ok((counts, rest))
+}
+
+/// The number of heads and then the heads.
+#[tactic(auto, unfolding(crate::specs::Reading::heads_at))]
+fn heads_of(alloc: Global, bytes: &[u8]) -> Result<(Atoms, &[u8]), Stop>
+    ensures { Gives (λ x. (x.0, x.1.now)) result (heads_at bytes.now) }
+{
+    let (count, rest) = number_of(bytes)?;
+    atoms_of(alloc, count, rest)
+}
+
+/// The list of one head.
+fn one_head(alloc: Global, head: u32) -> Result<Atoms, NoMemory>
+    ensures { IfOk result (λ heads. heads ≡ head ∷ []) }
+{
+    let mut heads = List::open();
+    heads.push(alloc, head)?;
+    Ok(heads)
+}
+
+/// So many atoms.
+fn atoms_of(alloc: Global, count: u32, bytes: &[u8]) -> Result<(Atoms, &[u8]), Stop>
+    ensures { Gives (λ x. (x.0, x.1.now)) result (counted_at atom_at count bytes.now) }
+{
+    let mut atoms = List::open();
+    let mut rest = bytes;
+    for _ in 0..count {
+        let (atom, after) = atom_of(rest)?;
+        atoms.push(alloc, atom)?;
+        rest = after;
+    }
+    Ok((atoms, rest))
+}
+
+/// The negative literals and then the positive ones.
+#[tactic(auto, unfolding(crate::specs::Reading::body_at))]
+fn body_of(alloc: Global, counts: Counts, bytes: &[u8]) -> Result<(Body, &[u8]), Stop>
+    ensures { Gives (λ x. (x.0, x.1.now)) result (body_at counts bytes.now) }
+{
+    let (body, rest) = parts_of(alloc, List::open(), true, counts.negatives, bytes)?;
+    parts_of(alloc, body, false, counts.positives, rest)
+}
+
+/// So many literals of the weight 1 behind those that are there.
+fn parts_of(
+    alloc: Global,
+    before: Body,
+    negated: bool,
+    count: u32,
+    bytes: &[u8],
+) -> Result<(Body, &[u8]), Stop>
+    ensures { Gives (λ x. (x.0, x.1.now)) result (behind before (counted_at (part_at negated) count bytes.now)) }
+{
+    let mut body = before;
+    let mut rest = bytes;
+    for _ in 0..count {
+        let (part, after) = part_of(negated, rest)?;
+        body.push(alloc, part)?;
+        rest = after;
+    }
+    Ok((body, rest))
+}
+
+/// A literal of the weight 1.
+#[tactic(auto, unfolding(crate::specs::Fields::part_at))]
+fn part_of(negated: bool, bytes: &[u8]) -> Result<(Weighted, &[u8]), Stop>
+    ensures { Gives (λ x. (x.0, x.1.now)) result (part_at negated bytes.now) }
+{
+    let (atom, rest) = atom_of(bytes)?;
+    let lit = AtomLit { atom, negated };
+    Ok((Weighted { lit, weight: 1 }, rest))
+}
+
+/// The literals with weights from here in place of their own.
+fn weighed_of<'a>(
+    alloc: Global,
+    parts: &[Weighted],
+    bytes: &'a [u8],
+) -> Result<(Body, &'a [u8]), Stop>
+    ensures { Gives (λ x. (x.0, x.1.now)) result (weighed_at parts.now bytes.now) }
+{
+    let mut body = List::open();
+    let mut rest = bytes;
+    for part in parts {
+        let (weight, after) = number_of(rest)?;
+        body.push(
+            alloc,
+            Weighted {
+                lit: part.lit,
+                weight,
+            },
+        )?;
+        rest = after;
+    }
+    Ok((body, rest))
+}

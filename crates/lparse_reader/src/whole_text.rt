@@ -1,0 +1,111 @@
+// Whole texts.
+ghost use Rattle.std.specs.Prelude.{◌≡◌, ◌≤◌, ℕ, length, IfOk, IfErr};
+ghost use Rattle.ground_program.specs.declared.program.Program.{Program};
+ghost use Rattle.lparse_reader.specs.Fields.{Gives};
+ghost use Rattle.lparse_reader.specs.Reading.{program_at, made};
+ghost use Rattle.lparse_reader.specs.declared.fault.TextFault.{TextFault};
+ghost use Rattle.lparse_reader.specs.Pieces.{Reads};
+ghost use Rattle.lparse_reader.specs.Refuses.{Refuses, IsRefused, IsTextUnlessNoMemory};
+ghost use Rattle.lparse_reader.specs.Tokens.{line_at};
+ghost use Rattle.lparse_reader.specs.Refusal.{IsAnswer, IsProgramUnlessNoMemory, told};
+
+use crate::compute_text::atoms_to_end;
+use crate::fault::{Fault, ReadError, Stop, TextFault};
+use crate::greatest::{greatest_of, greatest_of_names, greatest_of_rules};
+use crate::rule_text::rules_of;
+use crate::symbol_text::names_of;
+use crate::token_text::{after_mark, models_of, refuse_more};
+use ground_program::{Atoms, Names, Program, Rules};
+use std::alloc::Global;
+
+/// The program of a text, or the first thing that is wrong with it.
+pub fn parse(alloc: Global, bytes: &[u8]) -> Result<Program, ReadError>
+    requires { length bytes.now ≤ 67108864 }
+    // What is read stands in the text.
+    ensures read { IfOk result (Reads bytes.now) }
+    // What stands in the text is read, unless memory runs out.
+    ensures all_read { (program : Program) → Reads bytes.now program → IsProgramUnlessNoMemory result program }
+    // What is told is why the text is refused, and what is refused is told so, unless memory runs out.
+    ensures refused { IfErr result (IsRefused bytes.now) }
+    ensures all_refused { (why : TextFault) (line value : ℕ) → Refuses bytes.now why line value
+        → IsTextUnlessNoMemory result why line value }
+    // Both by reading from left to right.
+    ensures exact { IsAnswer bytes.now result (program_at bytes.now) }
+{
+    answer_of(alloc, bytes)
+}
+
+/// The program of a text, or its first fault as it is told.
+fn answer_of(alloc: Global, bytes: &[u8]) -> Result<Program, ReadError>
+    requires { length bytes.now ≤ 67108864 }
+    ensures { IsAnswer bytes.now result (program_at bytes.now) }
+{
+    match program_of(alloc, bytes) {
+        Ok(program) => Ok(program),
+        Err(Stop::Fault(fault)) => Err(refusal_of(bytes, fault)),
+        Err(Stop::NoMemory) => Err(ReadError::NoMemory),
+    }
+}
+
+/// What a fault in these bytes is told as.
+fn refusal_of(bytes: &[u8], fault: Fault) -> ReadError
+    requires { length bytes.now ≤ 67108864 }
+    ensures { result ≡ told bytes.now fault }
+{
+    match fault {
+        Fault::Ended => ReadError::Text {
+            why: TextFault::EndOfInput,
+            line: line_of_place(bytes, 0),
+            value: bytes.len() as u64,
+        },
+        Fault::At { why, left, value } => ReadError::Text {
+            why,
+            line: line_of_place(bytes, left),
+            value,
+        },
+    }
+}
+
+/// The line of the byte that has `left` bytes from it on.
+fn line_of_place(bytes: &[u8], left: usize) -> u32
+    requires { length bytes.now ≤ 67108864 }
+    ensures { result ≡ line_at bytes.now left }
+{
+    let place = bytes.len().saturating_sub(left);
+    let feeds = bytes[..place].iter().filter(|byte| **byte == b'\n').count();
+    1 + feeds as u32
+}
+
+/// The program of a text, or the first fault.
+#[tactic(auto, unfolding(crate::specs::Reading::program_at))]
+fn program_of(alloc: Global, bytes: &[u8]) -> Result<Program, Stop>
+    ensures { Gives (λ x. x) result (program_at bytes.now) }
+{
+    let (rules, rest) = rules_of(alloc, bytes)?;
+    let (names, rest) = names_of(alloc, rest)?;
+    let rest = after_mark(b'+', 1, rest)?;
+    let (must, rest) = atoms_to_end(alloc, rest)?;
+    let rest = after_mark(b'-', 2, rest)?;
+    let (must_not, rest) = atoms_to_end(alloc, rest)?;
+    let (models, rest) = models_of(rest)?;
+    refuse_more(rest)?;
+    Ok(made_of(rules, names, must, must_not, models))
+}
+
+/// The program of these parts.
+fn made_of(rules: Rules, names: Names, must: Atoms, must_not: Atoms, models: u32) -> Program
+    ensures { result ≡ made rules names must must_not models }
+{
+    let atoms = greatest_of_rules(rules.as_slice());
+    let atoms = greatest_of_names(atoms, names.as_slice());
+    let atoms = greatest_of(atoms, must.as_slice());
+    let atoms = greatest_of(atoms, must_not.as_slice());
+    Program {
+        atoms,
+        rules,
+        names,
+        must,
+        must_not,
+        models,
+    }
+}
