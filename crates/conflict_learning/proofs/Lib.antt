@@ -1,0 +1,6 @@
+pub mod AssignedLemmas
+pub mod MarkLemmas
+pub mod GivenLemmas
+pub mod WalkLemmas
+pub mod LearnedLemmas
+pub mod RefusalLemmas

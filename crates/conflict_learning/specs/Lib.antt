@@ -1,0 +1,4 @@
+pub mod Analysis
+pub mod Refusal
+pub mod Marks
+pub mod Walk

@@ -1,0 +1,20 @@
+-- Marked variables, and which assignments wait to be resolved. No public clause cites this module.
+use Rattle.std.specs.Prelude.{ℕ, Bool, false, ◌&&◌, ◌==◌, List, slice_index_or, IsTrue}
+use Rattle.clause_store.specs.declared.step.Step.{Step}
+use Rattle.clause_store.specs.Clause.{variable}
+
+-- whether a variable is marked
+abbrev pub is_marked : List Bool → ℕ → Bool
+is_marked marks var = slice_index_or marks var false
+
+-- a variable is marked
+abbrev pub IsMarked : List Bool → ℕ → Type 0
+IsMarked marks var = IsTrue (is_marked marks var)
+
+-- whether the variable of an assignment is marked
+abbrev pub has_mark : List Bool → Step → Bool
+has_mark marks step = is_marked marks (variable step.lit)
+
+-- whether an assignment is marked and of a level
+abbrev pub is_open : List Bool → ℕ → Step → Bool
+is_open marks level step = is_marked marks (variable step.lit) && (step.level == level)

@@ -1,0 +1,59 @@
+// The analysis of a conflict: from the clause that is false, the last literal of the present level is
+// replaced by the other literals of its reason, until one literal of that level is left.
+ghost use Rattle.std.specs.Prelude.{◌≡◌, ◌<◌, All, OnOk};
+ghost use Rattle.clause_store.specs.Clause.{HasNoVariableTwice, IsOver};
+ghost use Rattle.clause_store.specs.Entailment.{Follows, Refutes, negations, others};
+ghost use Rattle.clause_store.specs.Trail.{IsTrailOf, present_level};
+ghost use Rattle.conflict_learning.specs.Analysis.{IsConflict, IsFalse, StandsIn, IsAsserting, greatest_level};
+
+use crate::Learned;
+use crate::walk::Walk;
+use clause_store::{ClauseRef, Lit, NoMemory, Store, Trail};
+use std::alloc::Global;
+
+/// Learns from a conflict. After want of memory `learned` may hold any clause.
+pub fn analyse(
+    alloc: Global,
+    store: &Store,
+    trail: &Trail,
+    conflict: ClauseRef,
+    learned: &mut Learned,
+) -> Result<(), NoMemory>
+    requires of_store { IsTrailOf trail.now.steps store.now }
+    requires conflict { IsConflict store.now trail.now.steps conflict }
+    requires above { 0 < present_level trail.now.steps }
+
+    // The clause is implied, and unit propagation alone shows it.
+    ensures follows { OnOk result (Follows store.now learned.new.clause) }
+    ensures refuted { OnOk result (Refutes store.now (negations learned.new.clause)) }
+
+    ensures stands { OnOk result (All (StandsIn store.now) learned.new.clause) }
+    ensures is_false { OnOk result (All (IsFalse trail.now.steps) learned.new.clause) }
+    ensures once { OnOk result (HasNoVariableTwice learned.new.clause) }
+    ensures over { OnOk result (All (IsOver trail.now.vars) learned.new.clause) }
+
+    ensures asserting { OnOk result (IsAsserting trail.now.steps learned.new.clause learned.new.asserting) }
+    ensures back { OnOk result (learned.new.back ≡ greatest_level trail.now.steps (others learned.new.clause learned.new.asserting)) }
+{
+    let mut walk = Walk::begin(alloc, trail)?;
+    walk.note_all(alloc, trail, store.lits(conflict))?;
+    let asserting = walk.resolve(alloc, store, trail)?;
+    let back = greatest_level(trail, walk.clause());
+    learned.clause = walk.into_clause(alloc, asserting)?;
+    learned.back = back;
+    learned.asserting = asserting;
+    Ok(())
+}
+
+/// The greatest level of the literals, or 0.
+fn greatest_level(trail: &Trail, lits: &[Lit]) -> u32
+    requires { All (IsOver trail.now.vars) lits.now }
+    ensures { result ≡ greatest_level trail.now.steps lits.now }
+{
+    let mut greatest: u32 = 0;
+    for lit in lits {
+        let level = trail.level_of(lit.var()).unwrap_or(0);
+        greatest = greatest.max(level);
+    }
+    greatest
+}

@@ -1,0 +1,15 @@
+//! What a search learns from its conflicts: a clause that the store implies, and which assumptions
+//! can't be met together.
+#![tactic(auto)]
+
+mod analysis;
+mod learned;
+mod refusal;
+mod walk;
+
+pub use analysis::analyse;
+pub use learned::Learned;
+pub use refusal::final_core;
+
+#[cfg(test)]
+mod tests;

@@ -1,0 +1,64 @@
+use super::*;
+use clause_store::{Clause, Lit, Store, Trail};
+use std::test::Fail;
+
+#[test]
+fn one_level_is_learned_from(rt: HostRuntime) -> Result<(), Fail> {
+    let alloc = rt.alloc();
+    let mut store = Store::open();
+    let why = store.add(alloc, &[Lit(3), Lit(4)])?;
+    let conflict = store.add(alloc, &[Lit(3), Lit(5)])?;
+    let mut trail = Trail::open(alloc, 2)?;
+    trail.decide(Lit(2));
+    trail.assign(&store, Lit(4), why);
+    let mut learned = Learned::open();
+    analyse(alloc, &store, &trail, conflict, &mut learned)?;
+    assert!(rt; learned.clause.as_slice() == [Lit(3)].as_slice());
+    assert_eq!(rt; (learned.back, learned.asserting), (0, Lit(3)));
+    Ok(())
+}
+
+#[test]
+fn two_levels_are_learned_from(rt: HostRuntime) -> Result<(), Fail> {
+    let alloc = rt.alloc();
+    let mut store = Store::open();
+    let why = store.add(alloc, &[Lit(3), Lit(5), Lit(6)])?;
+    let conflict = store.add(alloc, &[Lit(3), Lit(5), Lit(7)])?;
+    let mut trail = Trail::open(alloc, 3)?;
+    trail.decide(Lit(2));
+    trail.decide(Lit(4));
+    trail.assign(&store, Lit(6), why);
+    let mut learned = Learned::open();
+    analyse(alloc, &store, &trail, conflict, &mut learned)?;
+    assert!(rt; learned.clause.as_slice() == [Lit(3), Lit(5)].as_slice());
+    assert_eq!(rt; (learned.back, learned.asserting), (1, Lit(5)));
+    Ok(())
+}
+
+#[test]
+fn a_core_names_the_decision(rt: HostRuntime) -> Result<(), Fail> {
+    let alloc = rt.alloc();
+    let mut store = Store::open();
+    let why = store.add(alloc, &[Lit(3), Lit(4)])?;
+    let mut trail = Trail::open(alloc, 2)?;
+    trail.decide(Lit(2));
+    trail.assign(&store, Lit(4), why);
+    let mut core = Clause::open();
+    final_core(alloc, &store, &trail, Lit(5), &mut core)?;
+    assert!(rt; core.as_slice() == [Lit(5), Lit(2)].as_slice());
+    Ok(())
+}
+
+#[test]
+fn a_core_of_level_0_names_no_decision(rt: HostRuntime) -> Result<(), Fail> {
+    let alloc = rt.alloc();
+    let mut store = Store::open();
+    let why = store.add(alloc, &[Lit(4)])?;
+    let mut trail = Trail::open(alloc, 2)?;
+    trail.assign(&store, Lit(4), why);
+    trail.decide(Lit(2));
+    let mut core = Clause::open();
+    final_core(alloc, &store, &trail, Lit(5), &mut core)?;
+    assert!(rt; core.as_slice() == [Lit(5)].as_slice());
+    Ok(())
+}

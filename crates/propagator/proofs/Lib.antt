@@ -1,0 +1,6 @@
+pub mod StandingLemmas
+pub mod ExtendLemmas
+pub mod WatchedLemmas
+pub mod HoldLemmas
+pub mod PassLemmas
+pub mod ClosureLemmas

@@ -1,0 +1,117 @@
+-- Attached clauses when a store grows, and what is true of the store once it is true of them.
+use Rattle.std.proofs.Common.{◌≡◌, ◌≢◌, ℕ, ◌<◌, List, [], ◌∷◌, ◌++◌, length, get_or, Some, refl, sym, ap, ◌∙◌, subst, inl, inr, arith, length-append}
+use Rattle.std.specs.Prelude.{All, Any, slice_get}
+use Rattle.std.proofs.lemmas.Bool.{cases_lt}
+use Rattle.std.proofs.lemmas.Option.{same_Some, slice_get_within, get_or_from_slice_get}
+use Rattle.std.proofs.lemmas.List.Elements.{All-contains, All-push, All-weaker, Contains-append_left}
+use Rattle.std.proofs.lemmas.List.Quantifiers.{Any-push, all_pairs_push}
+use Rattle.clause_store.specs.declared.literal.Lit.{Lit}
+use Rattle.clause_store.specs.declared.literal.ClauseRef.{ClauseRef}
+use Rattle.clause_store.specs.declared.step.Step.{Step}
+use Rattle.clause_store.proofs.LiteralLemmas.{any_from}
+use Rattle.clause_store.specs.Clause.{IsOver}
+use Rattle.clause_store.specs.Trail.{Assigned}
+use Rattle.clause_store.proofs.TrailLemmas.{slice_get-append, trail_stays}
+use Rattle.propagator.specs.Watched.{Attached, Followed, Watched, AreAttached, AreOn, IsAttached, IsReady}
+use Rattle.propagator.specs.Fixpoint.{IsFixpoint, IsQuietOn}
+use Rattle.propagator.specs.Laws.{ReadyWithMore, ReadyWithClause, ReadyAfterRewind}
+
+any-append_left : {X : Type 0} (P : X → Type 0) (xs ys : List X) → Any P xs → Any P (xs ++ ys)
+any-append_left P xs ys (k, x, within, is, p) = any_from P (xs ++ ys) x (Contains-append_left xs ys x (k, within, is)) p
+
+slice_get-last : {X : Type 0} (xs : List X) (x : X) → slice_get (xs ++ x ∷ []) (length xs) ≡ Some x
+slice_get-last [] x = refl
+slice_get-last (y ∷ xs) x = slice_get-last xs x
+
+-- where the newest clause of a store is attached last, the attached clauses are again just those of the store
+attached_push : (attached : List Attached) (clauses : List (List Lit)) (at : ClauseRef) (clause : List Lit) → AreAttached attached clauses
+    → at.0 ≡ length clauses → AreAttached (attached ++ record { at = at; lits = clause } ∷ []) (clauses ++ clause ∷ [])
+attached_push attached clauses at clause is last =
+    record { named = named; complete = complete; once = once }
+  where
+    entry : Attached
+    entry = record { at = at; lits = clause }
+
+    named : All (λ it. slice_get (clauses ++ clause ∷ []) it.at.0 ≡ Some it.lits) (attached ++ entry ∷ [])
+    named =
+        All-push (λ it. slice_get (clauses ++ clause ∷ []) it.at.0 ≡ Some it.lits) attached entry
+        (All-weaker (λ it. slice_get clauses it.at.0 ≡ Some it.lits) (λ it. slice_get (clauses ++ clause ∷ []) it.at.0 ≡ Some it.lits)
+        (λ it there. slice_get-append clauses (clause ∷ []) it.at.0 it.lits there) attached is.named)
+        (ap (slice_get (clauses ++ clause ∷ [])) last ∙ slice_get-last clauses clause)
+
+    complete : (k : ℕ) → k < length (clauses ++ clause ∷ []) → Any (λ it. it.at.0 ≡ k) (attached ++ entry ∷ [])
+    complete k within =
+        elim (cases_lt k (length clauses)) [
+          | inl before ↦ any-append_left (λ it. it.at.0 ≡ k) attached (entry ∷ []) (is.complete k before)
+          | inr after ↦ Any-push (λ it. it.at.0 ≡ k) attached entry (omega (arith, length-append clauses (clause ∷ []), last))
+        ]
+
+    once : (i j : ℕ) (d : Attached) → i < j → j < length (attached ++ entry ∷ []) → (get_or (attached ++ entry ∷ []) i d).at ≢ (get_or (attached ++ entry ∷ []) j d).at
+    once =
+        all_pairs_push (λ one two. one.at ≢ two.at) attached entry is.once
+        (λ k d within same.
+        let there : (get_or attached k d).at.0 < length clauses = slice_get_within clauses (get_or attached k d).at.0 (get_or attached k d).lits (is.named k d within) in
+        let equal : (get_or attached k d).at.0 ≡ at.0 = ap (λ a. a.0) same in
+        omega arith)
+
+-- what is followed stays on the trail when assignments come last
+followed_stay : (steps added : List Step) (followed : List Followed) → AreOn steps followed → AreOn (steps ++ added) followed
+followed_stay steps added followed on k d within =
+    any-append_left (λ step. (step.lit ≡ (get_or followed k d).lit) × (step.level ≡ (get_or followed k d).level)) steps added (on k d within)
+
+-- where each attached clause is quiet, each clause of the store is
+pub fixpoint_from_attached : (steps : List Step) (attached : List Attached) (clauses : List (List Lit)) → AreAttached attached clauses
+    → All (λ it. IsQuietOn steps it.lits) attached → IsFixpoint clauses steps
+fixpoint_from_attached steps attached clauses is quiet k d within =
+    let some = is.complete k within in
+    let here : slice_get clauses some.1.at.0 ≡ Some some.1.lits = All-contains (λ it. slice_get clauses it.at.0 ≡ Some it.lits) attached some.1 is.named (some.0, some.2, some.3) in
+    let named : slice_get clauses k ≡ Some some.1.lits = ap (slice_get clauses) (sym some.4) ∙ here in
+    subst (IsQuietOn steps) (sym (get_or_from_slice_get clauses k some.1.lits d named))
+    (All-contains (λ it. IsQuietOn steps it.lits) attached some.1 quiet (some.0, some.2, some.3))
+
+-- ---- ready for propagation
+
+pub ready_with_more : ReadyWithMore
+ready_with_more clauses old new watches added ready is of =
+    record {
+      attached = ready.attached;
+      same_vars = ready.same_vars ∙ sym (ap (λ trail. trail.vars) is);
+      over = subst (λ vars. All (All (IsOver vars)) clauses) (sym (ap (λ trail. trail.vars) is)) ready.over;
+      followed = subst (λ steps. AreOn steps watches.followed) (sym (ap (λ trail. trail.steps) is)) (followed_stay old.steps added watches.followed ready.followed);
+      of_store = of;
+    }
+
+ready_with_last : (clauses : List (List Lit)) (clause : List Lit) (trail : Assigned) (old new : Watched) (at : ClauseRef) → IsReady clauses trail old
+    → All (IsOver trail.vars) clause → at.0 ≡ length clauses → IsAttached (clauses ++ clause ∷ []) at old new → IsReady (clauses ++ clause ∷ []) trail new
+ready_with_last clauses clause trail old new at ready over last is =
+    record {
+      attached = subst (λ watches. AreAttached watches.clauses (clauses ++ clause ∷ [])) (sym new_is) (attached_push old.clauses clauses at clause ready.attached last);
+      same_vars = ap (λ watches. watches.vars) new_is ∙ ready.same_vars;
+      over = All-push (All (IsOver trail.vars)) clauses clause ready.over over;
+      followed = subst (λ watches. AreOn trail.steps watches.followed) (sym new_is) ready.followed;
+      of_store = trail_stays clauses clause trail.steps ready.of_store;
+    }
+  where
+    entry : List Lit → Attached
+    entry lits = record { at = at; lits = lits }
+
+    same : is.clause ≡ clause
+    same = same_Some is.clause clause (sym is.named ∙ ap (slice_get (clauses ++ clause ∷ [])) last ∙ slice_get-last clauses clause)
+
+    new_is : new ≡ record old { clauses = old.clauses ++ record { at = at; lits = clause } ∷ [] }
+    new_is = is.last ∙ ap (λ lits. let watches : Watched = record old { clauses = old.clauses ++ entry lits ∷ [] } in watches) same
+
+pub ready_with_clause : ReadyWithClause
+ready_with_clause clauses more clause trail old new at ready over last more_is is =
+    subst (λ all. IsReady all trail new) (sym more_is)
+    (ready_with_last clauses clause trail old new at ready over last (subst (λ all. IsAttached all at old new) more_is is))
+
+pub ready_after_rewind : ReadyAfterRewind
+ready_after_rewind clauses old new watches rewound ready same of rest on =
+    record {
+      attached = subst (λ it. AreAttached it.clauses clauses) (sym rest) ready.attached;
+      same_vars = ap (λ it. it.vars) rest ∙ ready.same_vars ∙ sym same;
+      over = subst (λ vars. All (All (IsOver vars)) clauses) (sym same) ready.over;
+      followed = on;
+      of_store = of;
+    }

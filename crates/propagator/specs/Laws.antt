@@ -1,0 +1,66 @@
+-- Laws of the words of this crate. Each is a clause of a function in src/laws.rt.
+use Rattle.std.specs.Prelude.{◌≡◌, ◌≢◌, ◌++◌, List, [], ◌∷◌, length, All, slice_get, Some}
+use Rattle.clause_store.specs.declared.literal.Lit.{Lit}
+use Rattle.clause_store.specs.declared.literal.ClauseRef.{ClauseRef}
+use Rattle.clause_store.specs.declared.literal.Value.TheVariants.{Yes, No}
+use Rattle.clause_store.specs.declared.step.Step.{Step}
+use Rattle.clause_store.specs.Clause.{IsOver}
+use Rattle.clause_store.specs.Entailment.{Absorbs, InClosure, Refutes}
+use Rattle.clause_store.specs.Trail.{Assigned, IsTrail, IsTrailOf, value_of}
+use Rattle.propagator.specs.Watched.{Watched, AreOn, IsAttached, IsReady}
+use Rattle.propagator.specs.Fixpoint.{Extends, IsFixpoint, IsUnitOn}
+
+-- the store, the trail and the watches stay ready when assignments come last
+abbrev pub ReadyWithMore : Type 0
+ReadyWithMore =
+    (clauses : List (List Lit)) (old new : Assigned) (watches : Watched) (added : List Step) → IsReady clauses old watches
+    → new ≡ record old { steps = old.steps ++ added } → IsTrailOf new.steps clauses → IsReady clauses new watches
+
+-- and when a clause is put into the store and attached
+abbrev pub ReadyWithClause : Type 0
+ReadyWithClause =
+    (clauses more : List (List Lit)) (clause : List Lit) (trail : Assigned) (old new : Watched) (at : ClauseRef) → IsReady clauses trail old
+    → All (IsOver trail.vars) clause → at.0 ≡ length clauses → more ≡ clauses ++ clause ∷ [] → IsAttached more at old new
+    → IsReady more trail new
+
+-- and when the trail goes back and the watches with it
+abbrev pub ReadyAfterRewind : Type 0
+ReadyAfterRewind =
+    (clauses : List (List Lit)) (old new : Assigned) (watches rewound : Watched) → IsReady clauses old watches
+    → new.vars ≡ old.vars → IsTrailOf new.steps clauses → rewound ≡ record watches { followed = rewound.followed }
+    → AreOn new.steps rewound.followed → IsReady clauses new rewound
+
+-- a run of propagation after another is one
+abbrev pub ExtendingGoesOn : Type 0
+ExtendingGoesOn = (first second third : Assigned) → Extends first second → Extends second third → Extends first third
+
+-- the clause of a reason: its literal is true and all others are false
+pub record HoldsAsReason (clauses : List (List Lit)) (steps : List Step) (step : Step) (why : ClauseRef) : Type 0 where
+  pub clause : List Lit
+  pub named : slice_get clauses why.0 ≡ Some clause
+  pub yes : value_of steps step.lit ≡ Yes
+  pub others : All (λ other. other ≢ step.lit → value_of steps other ≡ No) clause
+
+-- on a trail of the store the literal of each reason is true and its others are false
+abbrev pub ReasonsHold : Type 0
+ReasonsHold =
+    (trail : Assigned) (clauses : List (List Lit)) → IsTrail trail → IsTrailOf trail.steps clauses
+    → All (λ step. (why : ClauseRef) → step.reason ≡ Some why → HoldsAsReason clauses trail.steps step why) trail.steps
+
+-- what unit propagation draws from literals that are true at a fixpoint is true there
+abbrev pub FixpointHasClosure : Type 0
+FixpointHasClosure =
+    (trail : Assigned) (clauses : List (List Lit)) (lits : List Lit) (lit : Lit) → IsTrail trail → IsFixpoint clauses trail.steps
+    → All (λ it. value_of trail.steps it ≡ Yes) lits → InClosure clauses lits lit → value_of trail.steps lit ≡ Yes
+
+-- it refutes no such literals
+abbrev pub FixpointRefutesNone : Type 0
+FixpointRefutesNone =
+    (trail : Assigned) (clauses : List (List Lit)) (lits : List Lit) → IsTrail trail → IsFixpoint clauses trail.steps
+    → All (λ it. value_of trail.steps it ≡ Yes) lits → ¬ Refutes clauses lits
+
+-- so a clause that is a unit at a fixpoint of other clauses isn't absorbed by them
+abbrev pub FixpointAbsorbsNoUnit : Type 0
+FixpointAbsorbsNoUnit =
+    (trail : Assigned) (clauses : List (List Lit)) (clause : List Lit) (lit : Lit) → IsTrail trail → IsFixpoint clauses trail.steps
+    → IsUnitOn trail.steps clause lit → ¬ Absorbs clauses clause

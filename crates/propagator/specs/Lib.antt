@@ -1,0 +1,4 @@
+pub mod Watched
+pub mod Fixpoint
+pub mod Standings
+pub mod Laws

@@ -1,0 +1,45 @@
+// The laws of readiness, of propagation, of reasons and of the fixpoint, for the crates above. They do
+// nothing when they run.
+ghost use Rattle.propagator.specs.Laws.{ReadyWithMore, ReadyWithClause, ReadyAfterRewind};
+ghost use Rattle.propagator.specs.Laws.{ExtendingGoesOn, ReasonsHold};
+ghost use Rattle.propagator.specs.Laws.{FixpointHasClosure, FixpointRefutesNone, FixpointAbsorbsNoUnit};
+
+/// A store, a trail and watches stay ready for propagation when assignments come last.
+pub fn ready_with_more()
+    ensures { ReadyWithMore }
+{}
+
+/// They stay ready when a clause is put into the store and attached.
+pub fn ready_with_clause()
+    ensures { ReadyWithClause }
+{}
+
+/// They stay ready when the trail goes back and the watches with it.
+pub fn ready_after_rewind()
+    ensures { ReadyAfterRewind }
+{}
+
+/// A run of propagation after another is one.
+pub fn extending_goes_on()
+    ensures { ExtendingGoesOn }
+{}
+
+/// On a trail of the store the literal of each reason is true, and its others are false.
+pub fn reasons_hold()
+    ensures { ReasonsHold }
+{}
+
+/// What unit propagation draws from literals that are true at a fixpoint is true there.
+pub fn fixpoint_has_closure()
+    ensures { FixpointHasClosure }
+{}
+
+/// Unit propagation refutes no literals that are true at a fixpoint.
+pub fn fixpoint_refutes_none()
+    ensures { FixpointRefutesNone }
+{}
+
+/// A clause that is a unit at a fixpoint of other clauses isn't absorbed by them.
+pub fn fixpoint_absorbs_no_unit()
+    ensures { FixpointAbsorbsNoUnit }
+{}

@@ -1,0 +1,4 @@
+pub mod SettlingLemmas
+pub mod EndingLemmas
+pub mod AnswerLemmas
+pub mod RowLemmas
