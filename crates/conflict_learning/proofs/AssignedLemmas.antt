@@ -1,17 +1,16 @@
 -- What the assignments before a place say, and the levels there.
-use Rattle.std.proofs.Common.{◌≡◌, ◌≢◌, ℕ, zero, suc, ◌+◌, ◌<◌, ◌≤◌, Bool, true, false, cond, eqb, List, [], ◌∷◌, ◌++◌, length, take, drop, get_or, Option, Some, None, refl, sym, ap, ◌∙◌, subst, inl, inr, arith}
+use Rattle.std.proofs.Common.{◌≡◌, ◌≢◌, ℕ, ◌+◌, ◌<◌, ◌≤◌, Bool, true, false, cond, eqb, List, [], ◌∷◌, ◌++◌, length, take, drop, get_or, Option, Some, None, refl, sym, ap, ◌∙◌, subst, inl, inr, arith}
 use Rattle.std.specs.Prelude.{All, Contains, find, slice_get, option_map, unwrap_or}
 use Rattle.std.proofs.lemmas.Bool.{cases_eq, eqb-true, eqb-false}
 use Rattle.std.proofs.lemmas.List.{take-append-drop, take_more, get_or-take, length-take-le}
 use Rattle.std.proofs.lemmas.List.Elements.{All-cons, All-nil, All-weaker, All-contains, All-take}
 use Rattle.std.proofs.lemmas.Option.{same_Some, slice_get_within, get_or_from_slice_get}
 use Rattle.clause_store.specs.declared.literal.Lit.{Lit}
-use Rattle.clause_store.specs.declared.literal.Value.{Value}
-use Rattle.clause_store.specs.declared.literal.Value.TheVariants.{Yes, No, Unset}
+use Rattle.clause_store.specs.declared.literal.Value.TheVariants.{Yes, No}
 use Rattle.clause_store.specs.declared.step.Step.{Step}
 use Rattle.clause_store.specs.Clause.{variable, negation, IsOver}
-use Rattle.clause_store.specs.Trail.{Assigned, IsTrail, step_of, value_by, value_of, level_of, present_level, next_level, RisesFrom}
-use Rattle.clause_store.proofs.LiteralLemmas.{has_first, has_later, lit_of_code}
+use Rattle.clause_store.specs.Trail.{Assigned, IsTrail, step_of, value_by, level_of, present_level, next_level, RisesFrom}
+use Rattle.clause_store.proofs.LiteralLemmas.{has_later, lit_of_code}
 use Rattle.clause_store.proofs.TrailLemmas.{find_passes}
 use Rattle.clause_store.proofs.StepLemmas.{rises_front, present_end, last_unset, step_of_new}
 use Rattle.clause_store.proofs.ArrayLemmas.{other_variable}

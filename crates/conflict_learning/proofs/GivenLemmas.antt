@@ -1,9 +1,9 @@
 -- What propagation gives on the way: literals of level 0, noted literals, and the forced literal of a
 -- reason whose other literals were noted.
-use Rattle.std.proofs.Common.{◌≡◌, ◌≢◌, ℕ, zero, suc, ◌+◌, ◌-◌, ◌<◌, ◌≤◌, Bool, true, false, eqb, List, [], ◌∷◌, ◌++◌, length, take, drop, get_or, Option, Some, None, refl, sym, ap, ◌∙◌, subst, inl, inr, arith}
+use Rattle.std.proofs.Common.{◌≡◌, ◌≢◌, ℕ, zero, suc, ◌+◌, ◌<◌, ◌≤◌, Bool, true, false, eqb, List, [], ◌∷◌, ◌++◌, length, take, drop, get_or, Option, Some, None, refl, sym, ap, ◌∙◌, subst, inl, inr, arith}
 use Rattle.std.specs.Prelude.{All, Contains, slice_get, IsTrue, ◌&&◌}
 use Rattle.std.proofs.lemmas.Bool.{cases_eq, eqb-true, eq-eqb, false≢true}
-use Rattle.std.proofs.lemmas.List.{take-append-drop, length-take-le, append-nil}
+use Rattle.std.proofs.lemmas.List.{take-append-drop, length-take-le}
 use Rattle.std.proofs.Math.Seq.{take-suc}
 use Rattle.std.proofs.lemmas.List.Elements.{All-append, All-cons, All-contains, All-contains_itself, All-push, All-weaker, Contains-append_left, Contains-append_right}
 use Rattle.std.proofs.lemmas.Option.{same_Some, slice_get-get_or}
@@ -12,12 +12,12 @@ use Rattle.clause_store.specs.declared.literal.ClauseRef.{ClauseRef}
 use Rattle.clause_store.specs.declared.step.Step.{Step}
 use Rattle.clause_store.specs.Clause.{variable, negation, HasAll}
 use Rattle.clause_store.specs.Entailment.{IsForcedBy, IsClosed, negations}
-use Rattle.clause_store.specs.Trail.{Assigned, IsTrail, IsTrailOf, IsReasonFor, step_of, present_level, next_level}
+use Rattle.clause_store.specs.Trail.{Assigned, IsTrail, IsTrailOf, IsReasonFor, present_level, next_level}
 use Rattle.clause_store.proofs.LiteralLemmas.{has_mapped, mapped_from, all_through, negation-negation}
 use Rattle.conflict_learning.specs.declared.walk.Walk.{Walk}
 use Rattle.conflict_learning.specs.Analysis.{IsFalse, level_at}
 use Rattle.conflict_learning.specs.Marks.{is_marked, IsMarked, is_open}
-use Rattle.conflict_learning.specs.Walk.{IsProgress, IsUnderWay, IsKnowing, Gives, GivenBy, IsLater, IsNoted, NotesAll}
+use Rattle.conflict_learning.specs.Walk.{IsUnderWay, GivenBy, IsLater, IsNoted, NotesAll}
 use Rattle.conflict_learning.proofs.AssignedLemmas.{blank, here_at, step_of_before, false_later, IsRefuter, refuter, below_present, step_at, level_found}
 
 -- ---- open assignments

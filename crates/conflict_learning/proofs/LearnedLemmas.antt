@@ -1,8 +1,8 @@
 -- Resolving with reasons until one open assignment is left, and what the clause is then.
-use Rattle.std.proofs.Common.{◌≡◌, ◌≢◌, ℕ, ◌+◌, ◌-◌, ◌/◌, ◌<◌, ◌≤◌, max, Bool, true, false, cond, eqb, not, List, [], ◌∷◌, ◌++◌, length, take, get_or, Option, Some, None, refl, sym, ap, ap₂, ◌∙◌, subst, inl, inr, arith}
+use Rattle.std.proofs.Common.{◌≡◌, ◌≢◌, ℕ, ◌+◌, ◌/◌, ◌<◌, ◌≤◌, max, Bool, true, false, cond, eqb, not, List, [], ◌∷◌, ◌++◌, length, take, get_or, Option, Some, None, refl, sym, ap, ap₂, ◌∙◌, subst, inl, inr, arith}
 use Rattle.std.specs.Prelude.{All, Any, Contains, slice_get, count_by, filter, IsSome, IsTrue, unwrap_or}
 use Rattle.std.proofs.lemmas.Bool.{cases_Bool, cases_eq, eq-eqb, ne_eqb, false≢true, not_from_false}
-use Rattle.std.proofs.lemmas.List.{append-nil, length-take-le}
+use Rattle.std.proofs.lemmas.List.{append-nil}
 use Rattle.std.proofs.Math.Seq.{take-length}
 use Rattle.std.proofs.lemmas.List.Elements.{All-head, All-tail, All-cons, All-contains, All-contains_itself, All-push, All-weaker, Contains-append_left, Contains-push, filter-append}
 use Rattle.std.proofs.lemmas.List.Quantifiers.{all_pairs_push}
@@ -13,7 +13,7 @@ use Rattle.clause_store.specs.declared.literal.Value.TheVariants.{Yes, No}
 use Rattle.clause_store.specs.declared.step.Step.{Step}
 use Rattle.clause_store.specs.Clause.{variable, negation, HasNoVariableTwice, IsOver}
 use Rattle.clause_store.specs.Entailment.{negations, others, InClosure, Refutes}
-use Rattle.clause_store.specs.Trail.{Assigned, IsTrail, IsTrailOf, IsReasonFor, step_of, value_by, level_of, present_level, next_level}
+use Rattle.clause_store.specs.Trail.{Assigned, IsTrailOf, IsReasonFor, step_of, value_by, level_of, present_level, next_level}
 use Rattle.clause_store.proofs.LiteralLemmas.{all_through, any_from, cases_lit, has_mapped, negation-negation, variable-negation}
 use Rattle.clause_store.proofs.ArrayLemmas.{negation_differs}
 use Rattle.conflict_learning.specs.declared.walk.Walk.{Walk}
@@ -22,7 +22,7 @@ use Rattle.conflict_learning.specs.Marks.{IsMarked, is_open}
 use Rattle.conflict_learning.specs.Walk.{IsLower, IsUnderWay, AllStand, GivenBy, Begins, IsNotable, NotesAll, GoesBack, ResolvesTo}
 use Rattle.conflict_learning.proofs.AssignedLemmas.{here_at, refuter, false_later, false_over, below_present, step_at, level_found}
 use Rattle.conflict_learning.proofs.MarkLemmas.{none_counted, count_none}
-use Rattle.conflict_learning.proofs.GivenLemmas.{open_parts, open_from, from_front, noted_known, given_resolved, negations_within}
+use Rattle.conflict_learning.proofs.GivenLemmas.{open_parts, open_from, noted_known, given_resolved, negations_within}
 
 -- ---- resolving
 

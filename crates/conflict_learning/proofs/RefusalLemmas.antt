@@ -1,24 +1,24 @@
 -- Which decisions made a literal false.
-use Rattle.std.proofs.Common.{◌≡◌, ◌≢◌, ℕ, zero, suc, ◌+◌, ◌-◌, ◌<◌, ◌≤◌, Bool, true, false, List, [], ◌∷◌, ◌++◌, length, set, take, get_or, Option, Some, None, refl, sym, ap, ◌∙◌, subst, inl, inr, arith, append_assoc}
-use Rattle.std.specs.Prelude.{All, Any, Contains, slice_get, IsTrue, unwrap_or}
+use Rattle.std.proofs.Common.{◌≡◌, ◌≢◌, ℕ, ◌+◌, ◌<◌, ◌≤◌, Bool, true, List, [], ◌∷◌, ◌++◌, length, set, take, get_or, Option, Some, None, refl, sym, ap, ◌∙◌, subst, inl, inr, arith, append_assoc}
+use Rattle.std.specs.Prelude.{All, Contains, slice_get, IsTrue, unwrap_or}
 use Rattle.std.proofs.lemmas.Bool.{cases_Bool, false≢true}
-use Rattle.std.proofs.lemmas.List.{length-set, length-replicate, length-take-le, append-nil}
+use Rattle.std.proofs.lemmas.List.{length-set, length-take-le, append-nil}
 use Rattle.std.proofs.Math.Seq.{take-length}
-use Rattle.std.proofs.lemmas.List.Elements.{All-nil, All-head, All-tail, All-contains, All-contains_itself, All-push, All-weaker, Contains-append_left, Contains-push}
-use Rattle.std.proofs.lemmas.Option.{slice_get-get_or, same_Some, slice_get_within}
+use Rattle.std.proofs.lemmas.List.Elements.{All-nil, All-head, All-tail, All-contains, All-contains_itself, All-push, Contains-append_left, Contains-push}
+use Rattle.std.proofs.lemmas.Option.{same_Some, slice_get_within}
 use Rattle.clause_store.specs.declared.literal.Lit.{Lit}
 use Rattle.clause_store.specs.declared.literal.ClauseRef.{ClauseRef}
 use Rattle.clause_store.specs.declared.step.Step.{Step}
-use Rattle.clause_store.specs.Clause.{variable, negation, IsTrueIn, Meets, HasAll, IsOver}
-use Rattle.clause_store.specs.Entailment.{IsClosed, InClosure}
+use Rattle.clause_store.specs.Clause.{variable, negation, IsTrueIn, HasAll}
+use Rattle.clause_store.specs.Entailment.{InClosure}
 use Rattle.clause_store.specs.Trail.{Assigned, IsTrail, IsTrailOf, IsReasonFor, level_of}
 use Rattle.clause_store.proofs.LiteralLemmas.{all_through, any_from, cases_lit}
 use Rattle.clause_store.proofs.EntailmentLemmas.{closure_holds, not_both}
 use Rattle.conflict_learning.specs.Analysis.{IsFalse, level_at}
-use Rattle.conflict_learning.specs.Marks.{is_marked, IsMarked, has_mark}
+use Rattle.conflict_learning.specs.Marks.{IsMarked, has_mark}
 use Rattle.conflict_learning.specs.Walk.{IsKnowing, Gives}
 use Rattle.conflict_learning.specs.Refusal.{IsDecision, CannotMeet, AddsDecisions, IsFitting, Explains}
-use Rattle.conflict_learning.proofs.AssignedLemmas.{blank, here_at, step_of_before, take_there, refuter, false_later, false_over, step_at, level_found}
+use Rattle.conflict_learning.proofs.AssignedLemmas.{here_at, take_there, refuter, false_later, false_over, step_at, level_found}
 use Rattle.conflict_learning.proofs.MarkLemmas.{marked_new, marked_kept}
 use Rattle.conflict_learning.proofs.GivenLemmas.{forced_known, ground_known}
 

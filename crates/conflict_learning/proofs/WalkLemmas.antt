@@ -1,5 +1,5 @@
 -- Each step of the walk keeps what is true on the way.
-use Rattle.std.proofs.Common.{◌≡◌, ◌≢◌, ℕ, zero, suc, ◌+◌, ◌-◌, ◌<◌, ◌≤◌, ◌^◌, Bool, true, false, cond, eqb, List, [], ◌∷◌, ◌++◌, length, set, take, get_or, Option, Some, None, refl, sym, ap, ap₂, ◌∙◌, subst, add-zero, inl, inr, arith}
+use Rattle.std.proofs.Common.{◌≡◌, ◌≢◌, ℕ, zero, suc, ◌+◌, ◌-◌, ◌<◌, ◌≤◌, ◌^◌, Bool, true, false, eqb, List, [], ◌∷◌, ◌++◌, length, set, take, get_or, Some, refl, sym, ap, ap₂, ◌∙◌, subst, add-zero, inl, inr, arith}
 use Rattle.std.specs.Prelude.{All, Contains, slice_get, count_by, IsTrue, replicate, ◌&&◌}
 use Rattle.std.proofs.lemmas.Bool.{cases_eq, eq-eqb, ne_eqb, false≢true}
 use Rattle.std.proofs.lemmas.List.{length-set, length-replicate, length-take, length-take-le, get_or_default}
@@ -8,9 +8,8 @@ use Rattle.std.proofs.lemmas.List.Elements.{All-nil, All-head, All-tail, All-con
 use Rattle.std.proofs.lemmas.List.Quantifiers.{all_pairs_push}
 use Rattle.std.proofs.lemmas.Option.{same_Some, slice_get-get_or}
 use Rattle.clause_store.specs.declared.literal.Lit.{Lit}
-use Rattle.clause_store.specs.declared.literal.ClauseRef.{ClauseRef}
 use Rattle.clause_store.specs.declared.step.Step.{Step}
-use Rattle.clause_store.specs.Clause.{variable, negation, HasAll, HasNoVariableTwice, IsOver}
+use Rattle.clause_store.specs.Clause.{variable, negation, HasAll, IsOver}
 use Rattle.clause_store.specs.Entailment.{negations}
 use Rattle.clause_store.specs.Trail.{Assigned, IsTrail, step_of, present_level}
 use Rattle.clause_store.proofs.StepLemmas.{trail_fits}
@@ -18,7 +17,7 @@ use Rattle.clause_store.proofs.LiteralLemmas.{all_through, negation-negation}
 use Rattle.conflict_learning.specs.declared.walk.Walk.{Walk}
 use Rattle.conflict_learning.specs.Analysis.{IsFalse, StandsIn, level_at}
 use Rattle.conflict_learning.specs.Marks.{is_marked, IsMarked, is_open}
-use Rattle.conflict_learning.specs.Walk.{IsLower, IsProgress, IsUnderWay, AreStanding, AllStand, Begins, IsLater, IsNoted, Notes, NotesAll, GoesBack}
+use Rattle.conflict_learning.specs.Walk.{IsLower, IsProgress, IsUnderWay, Begins, IsLater, IsNoted, Notes, NotesAll, GoesBack}
 use Rattle.conflict_learning.proofs.AssignedLemmas.{step_of_before, IsRefuter, refuter, false_later, trail_before, below_present, take_there, step_at, level_found}
 use Rattle.conflict_learning.proofs.MarkLemmas.{one_if, marked_new, marked_kept, marked_before, count_marked, count_none}
 use Rattle.conflict_learning.proofs.GivenLemmas.{open_parts, from_front}

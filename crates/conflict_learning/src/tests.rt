@@ -22,8 +22,8 @@ fn one_level_is_learned_from(rt: HostRuntime) -> Result<(), Fail> {
 fn two_levels_are_learned_from(rt: HostRuntime) -> Result<(), Fail> {
     let alloc = rt.alloc();
     let mut store = Store::open();
-    let why = store.add(alloc, &[Lit(3), Lit(5), Lit(6)])?;
-    let conflict = store.add(alloc, &[Lit(3), Lit(5), Lit(7)])?;
+    let why = store.add(alloc, &[Lit(3), Lit(6)])?;
+    let conflict = store.add(alloc, &[Lit(5), Lit(7)])?;
     let mut trail = Trail::open(alloc, 3)?;
     trail.decide(Lit(2));
     trail.decide(Lit(4));

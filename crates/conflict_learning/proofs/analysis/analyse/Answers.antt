@@ -1,6 +1,5 @@
-use Rattle.std.proofs.Common.{◌∙◌, length, sym, ap, subst}
+use Rattle.std.proofs.Common.{◌∙◌, sym, ap, subst}
 use Rattle.std.specs.Prelude.{All}
-use Rattle.std.proofs.lemmas.Option.{same_Some}
 use Rattle.clause_store.specs.Clause.{IsOver}
 use Rattle.clause_store.proofs.EntailmentLemmas.{refuted_follows}
 use Rattle.conflict_learning.specs.Analysis.{greatest_level}

@@ -1,4 +1,4 @@
-use Rattle.std.proofs.Common.{◌≡◌, ◌∙◌, ◌∷◌, sym, ap, subst}
+use Rattle.std.proofs.Common.{◌∙◌, ◌∷◌, sym, ap, subst}
 use Rattle.conflict_learning.specs.Refusal.{CannotMeet}
 use Rattle.conflict_learning.proofs.RefusalLemmas as lemma
 use Rattle.conflict_learning.proofs.refusal.final_core.Goals as goal

@@ -1,7 +1,4 @@
-use Rattle.std.proofs.Common.{ℕ, take}
-use Rattle.std.specs.Prelude.{All}
-use Rattle.clause_store.specs.Clause.{variable}
-use Rattle.conflict_learning.specs.Marks.{IsMarked}
+use Rattle.std.proofs.Common.{take}
 use Rattle.conflict_learning.proofs.RefusalLemmas.{IsMarking}
 use Rattle.conflict_learning.proofs.refusal.mark_all.Given as goal
 

@@ -1,4 +1,4 @@
-use Rattle.std.proofs.Common.{◌≡◌, ◌∙◌, ◌-◌, ◌≤◌, sym, ap, refl, arith, length, get_or}
+use Rattle.std.proofs.Common.{◌∙◌, ◌-◌, ◌≤◌, sym, ap, refl, arith, length, get_or}
 use Rattle.conflict_learning.specs.Marks.{is_open}
 use Rattle.conflict_learning.proofs.AssignedLemmas.{blank}
 use Rattle.conflict_learning.proofs.WalkLemmas as lemma

@@ -1,0 +1,50 @@
+// The completion of a normal form.
+ghost use Rattle.std.specs.Prelude.{◌≡◌, ◌++◌, map, flat_map, OnOk, OnErr};
+ghost use Rattle.rule_normaliser.specs.Clauses.{base_clauses, body_clauses, numbered_bodies, rule_clauses, support_clause, atoms_of_normal, compute_clauses, cleaned};
+ghost use Rattle.rule_normaliser.specs.Limit.{IsNormal};
+ghost use Rattle.rule_normaliser.specs.Range.{IsInRange};
+ghost use Rattle.completion.specs.Completion.{AreEntailed, MakeModels};
+ghost use Rattle.completion.specs.Filling.{Gains, GainsFirst};
+
+use crate::defining::add_bodies;
+use crate::ruling::{add_false, add_rules, add_true};
+use crate::supporting::add_supports;
+use clause_store::{NoMemory, Store};
+use rule_normaliser::Normal;
+use std::alloc::Global;
+
+/// Adds the base clauses of a normal form. After want of memory the store has the first of them.
+pub fn complete(alloc: Global, normal: &Normal, store: &mut Store) -> Result<(), NoMemory>
+    requires { IsNormal normal.now }
+    ensures added { OnOk result (store.new ≡ store.old ++ base_clauses normal.now) }
+    ensures some { OnErr result (GainsFirst store.old store.new (base_clauses normal.now)) }
+
+    // Each of them holds in every answer set. An assignment that meets them and the meaning of
+    // the weight bodies is a model of all rules that meets the compute statement.
+    ensures entailed { AreEntailed normal.now }
+    ensures models { MakeModels normal.now }
+{
+    add_all(alloc, normal, store)
+}
+
+// All base clauses.
+fn add_all(alloc: Global, normal: &Normal, store: &mut Store) -> Result<(), NoMemory>
+    requires { IsInRange normal.now }
+    ensures ok { OnOk result (Gains store.old store.new (base_clauses normal.now)) }
+    ensures err { OnErr result (GainsFirst store.old store.new (base_clauses normal.now)) }
+{
+    add_bodies(alloc, normal, store)?;
+    add_rules(alloc, normal, store)?;
+    add_supports(alloc, normal, store)?;
+    add_compute(alloc, normal, store)
+}
+
+// The clauses of the compute statement.
+fn add_compute(alloc: Global, normal: &Normal, store: &mut Store) -> Result<(), NoMemory>
+    requires { IsInRange normal.now }
+    ensures ok { OnOk result (Gains store.old store.new (cleaned (compute_clauses normal.now))) }
+    ensures err { OnErr result (GainsFirst store.old store.new (cleaned (compute_clauses normal.now))) }
+{
+    add_true(alloc, store, normal.must.as_slice())?;
+    add_false(alloc, store, normal.must_not.as_slice())
+}
