@@ -8,10 +8,11 @@ use Rattle.clause_store.specs.declared.literal.Value.{Value}
 use Rattle.clause_store.specs.declared.literal.Value.TheVariants.{Yes, No, Unset}
 use Rattle.clause_store.specs.declared.step.Step.{Step}
 use Rattle.clause_store.specs.Clause.{variable, negation, IsOver}
-use Rattle.clause_store.specs.Trail.{IsTrail, step_of, value_by, value_of, present_level, next_level}
+use Rattle.clause_store.specs.Trail.{IsTrail, step_of, place_of, value_by, value_of, present_level, next_level}
 use Rattle.clause_store.specs.Arrays.{IsTable, AreAnswers, IsKept, IsWithoutLast}
 use Rattle.clause_store.proofs.LiteralLemmas.{coded, variable-negation}
-use Rattle.clause_store.proofs.StepLemmas.{step_of_unset, trail_push, trail_front, trail_fits, last_unset, present_level-push, level_before, step_of_new, step_of_other, value_of_new, value_of_other}
+use Rattle.clause_store.proofs.PlaceLemmas.{place_of_none, place_of_new, place_of_other}
+use Rattle.clause_store.proofs.StepLemmas.{step_of_unset, trail_push, trail_front, trail_fits, last_unset, present_level-push, level_before, value_of_new, value_of_other}
 
 -- one answer changes
 pub table_set : {X : Type 0} (old new : ℕ → X) (size : ℕ) (table : List X) (i : ℕ) (v : X) → IsTable old size table → i < size → new i ≡ v
@@ -68,14 +69,14 @@ negation_within vars lit over =
     let e : variable (negation lit) ≡ variable lit = variable-negation lit in
     omega (arith, over.last, e)
 
-pub answers_push : (vars : ℕ) (steps : List Step) (step : Step) (variables : List (Option Step)) (literals : List Value) → AreAnswers vars steps variables literals
+pub answers_push : (vars : ℕ) (steps : List Step) (step : Step) (variables : List (Option ℕ)) (literals : List Value) → AreAnswers vars steps variables literals
     → IsOver vars step.lit → step_of steps (variable step.lit) ≡ None
-    → AreAnswers vars (steps ++ step ∷ []) (set variables (variable step.lit) (Some step)) (set (set literals step.lit.0 Yes) (negation step.lit).0 No)
+    → AreAnswers vars (steps ++ step ∷ []) (set variables (variable step.lit) (Some (length steps))) (set (set literals step.lit.0 Yes) (negation step.lit).0 No)
 answers_push vars steps step variables literals are over none =
     record {
-      by_var =
-          table_set (step_of steps) (step_of (steps ++ step ∷ [])) (vars + 1) variables (variable step.lit) (Some step) are.by_var (omega (arith, over.last))
-          (step_of_new steps step none) (λ k within other. step_of_other steps step k (λ e. other (sym e)));
+      places =
+          table_set (place_of steps) (place_of (steps ++ step ∷ [])) (vars + 1) variables (variable step.lit) (Some (length steps)) are.places (omega (arith, over.last))
+          (place_of_new steps step none) (λ k within other. place_of_other steps step k (λ e. other (sym e)));
       values =
           table_set_two (λ code. value_of steps (coded code)) (λ code. value_of (steps ++ step ∷ []) (coded code)) (2 * vars + 2) literals step.lit.0 Yes (negation step.lit).0 No are.values
           (code_within vars step.lit over) (negation_within vars step.lit over) (negation_differs step.lit)
@@ -84,14 +85,14 @@ answers_push vars steps step variables literals are over none =
           (λ code within one two. value_of_other steps step (coded code) (other_variable step.lit code one two));
     }
 
-pub answers_front : (vars : ℕ) (steps : List Step) (step : Step) (variables : List (Option Step)) (literals : List Value) → AreAnswers vars (steps ++ step ∷ []) variables literals
+pub answers_front : (vars : ℕ) (steps : List Step) (step : Step) (variables : List (Option ℕ)) (literals : List Value) → AreAnswers vars (steps ++ step ∷ []) variables literals
     → IsOver vars step.lit → step_of steps (variable step.lit) ≡ None
     → AreAnswers vars steps (set variables (variable step.lit) None) (set (set literals step.lit.0 Unset) (negation step.lit).0 Unset)
 answers_front vars steps step variables literals are over none =
     record {
-      by_var =
-          table_set (step_of (steps ++ step ∷ [])) (step_of steps) (vars + 1) variables (variable step.lit) None are.by_var (omega (arith, over.last))
-          none (λ k within other. sym (step_of_other steps step k (λ e. other (sym e))));
+      places =
+          table_set (place_of (steps ++ step ∷ [])) (place_of steps) (vars + 1) variables (variable step.lit) None are.places (omega (arith, over.last))
+          (place_of_none steps (variable step.lit) none) (λ k within other. sym (place_of_other steps step k (λ e. other (sym e))));
       values =
           table_set_two (λ code. value_of (steps ++ step ∷ []) (coded code)) (λ code. value_of steps (coded code)) (2 * vars + 2) literals step.lit.0 Unset (negation step.lit).0 Unset are.values
           (code_within vars step.lit over) (negation_within vars step.lit over) (negation_differs step.lit)
@@ -101,19 +102,19 @@ answers_front vars steps step variables literals are over none =
     }
 
 -- there is room for an assignment of an unset variable
-pub room_left : (vars : ℕ) (steps : List Step) (count room : ℕ) (variables : List (Option Step)) (literals : List Value) (step : Step) → IsKept vars steps count room variables literals
+pub room_left : (vars : ℕ) (steps : List Step) (count room : ℕ) (variables : List (Option ℕ)) (literals : List Value) (step : Step) → IsKept vars steps count room variables literals
     → IsOver vars step.lit → value_of steps step.lit ≡ Unset → step.level ≡ next_level (present_level steps) step.reason → count < room
 room_left vars steps count room variables literals step kept over unset level =
     let fits : length (steps ++ step ∷ []) ≤ vars =
     trail_fits (record { vars = vars; steps = steps ++ step ∷ [] }) (trail_push vars steps step kept.trail over (step_of_unset steps step.lit unset) level) in
     omega (arith, fits, length-append steps (step ∷ []), kept.reserved, kept.counted)
 
-pub kept_push : (vars : ℕ) (steps new : List Step) (count new_count room new_room : ℕ) (variables : List (Option Step)) (literals : List Value) (step : Step)
+pub kept_push : (vars : ℕ) (steps new : List Step) (count new_count room new_room : ℕ) (variables : List (Option ℕ)) (literals : List Value) (step : Step)
     → IsKept vars steps count room variables literals
     → IsOver vars step.lit → value_of steps step.lit ≡ Unset → step.level ≡ next_level (present_level steps) step.reason → new ≡ steps ++ step ∷ [] → new_count ≡ count + 1 → new_room ≡ room
-    → IsKept vars new new_count new_room (set variables (variable step.lit) (Some step)) (set (set literals step.lit.0 Yes) (negation step.lit).0 No)
+    → IsKept vars new new_count new_room (set variables (variable step.lit) (Some (length steps))) (set (set literals step.lit.0 Yes) (negation step.lit).0 No)
 kept_push vars steps new count new_count room new_room variables literals step kept over unset level is more same =
-    subst (λ n. IsKept vars n new_count new_room (set variables (variable step.lit) (Some step)) (set (set literals step.lit.0 Yes) (negation step.lit).0 No)) (sym is) (record {
+    subst (λ n. IsKept vars n new_count new_room (set variables (variable step.lit) (Some (length steps))) (set (set literals step.lit.0 Yes) (negation step.lit).0 No)) (sym is) (record {
       few = kept.few;
       trail = trail_push vars steps step kept.trail over (step_of_unset steps step.lit unset) level;
       counted = omega (arith, kept.counted, more, length-append steps (step ∷ []));
@@ -126,7 +127,7 @@ pub last_over : (vars : ℕ) (steps : List Step) (step : Step) → IsTrail (reco
 last_over vars steps step trail =
     subst (λ s. IsOver vars s.lit) (get_or-append_seam steps step [] step) (trail.over (length steps) step (omega (arith, length-append steps (step ∷ []))))
 
-pub kept_front : (vars : ℕ) (steps new : List Step) (count new_count room new_room : ℕ) (variables : List (Option Step)) (literals : List Value) (step : Step)
+pub kept_front : (vars : ℕ) (steps new : List Step) (count new_count room new_room : ℕ) (variables : List (Option ℕ)) (literals : List Value) (step : Step)
     → IsKept vars steps count room variables literals → steps ≡ new ++ step ∷ [] → new_count + 1 ≡ count → new_room ≡ room
     → IsKept vars new new_count new_room (set variables (variable step.lit) None) (set (set literals step.lit.0 Unset) (negation step.lit).0 Unset)
 kept_front vars steps new count new_count room new_room variables literals step kept is less same =

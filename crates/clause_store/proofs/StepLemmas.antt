@@ -181,38 +181,39 @@ last_unset vars steps step trail =
     (trail.once k (length steps) d within (omega (arith, length-append steps (step ∷ [])))))))
 
 -- so there are at most as many assignments as variables
-abbrev place_of : Step → ℕ
-place_of step = variable step.lit - 1
+abbrev shifted : Step → ℕ
+shifted step = variable step.lit - 1
 
-blank : Step
+-- for reading past the end
+pub blank : Step
 blank = record { lit = coded 0; reason = None; level = 0 }
 
 pub trail_fits : (trail : Assigned) → IsTrail trail → length trail.steps ≤ trail.vars
 trail_fits trail is =
-    subst (λ n. n ≤ trail.vars) (length-map trail.steps place_of)
-    (length-le_from_distinct_below (map place_of trail.steps) trail.vars
-    (IsDistinct-from_apart eqb (map place_of trail.steps) apart) below)
+    subst (λ n. n ≤ trail.vars) (length-map trail.steps shifted)
+    (length-le_from_distinct_below (map shifted trail.steps) trail.vars
+    (IsDistinct-from_apart eqb (map shifted trail.steps) apart) below)
   where
-    at : (k d : ℕ) → k < length trail.steps → get_or (map place_of trail.steps) k d ≡ place_of (get_or trail.steps k blank)
-    at k d within = get_or-map place_of trail.steps k blank d within
+    at : (k d : ℕ) → k < length trail.steps → get_or (map shifted trail.steps) k d ≡ shifted (get_or trail.steps k blank)
+    at k d within = get_or-map shifted trail.steps k blank d within
 
     over : (k : ℕ) → k < length trail.steps → IsOver trail.vars (get_or trail.steps k blank).lit
     over k within = is.over k blank within
 
-    apart : (i j d : ℕ) → i < j → j < length (map place_of trail.steps) → eqb (get_or (map place_of trail.steps) i d) (get_or (map place_of trail.steps) j d) ≡ false
+    apart : (i j d : ℕ) → i < j → j < length (map shifted trail.steps) → eqb (get_or (map shifted trail.steps) i d) (get_or (map shifted trail.steps) j d) ≡ false
     apart i j d before within =
-        let later : j < length trail.steps = omega (arith, length-map trail.steps place_of) in
+        let later : j < length trail.steps = omega (arith, length-map trail.steps shifted) in
         let first : i < length trail.steps = omega arith in
         let one = over i first in let two = over j later in
         let differ : variable (get_or trail.steps i blank).lit ≢ variable (get_or trail.steps j blank).lit = is.once i j blank before later in
-        rw (at i d first, at j d later) (ne_eqb (place_of (get_or trail.steps i blank)) (place_of (get_or trail.steps j blank)) (λ e. differ (omega (arith, one.first, two.first, e))))
+        rw (at i d first, at j d later) (ne_eqb (shifted (get_or trail.steps i blank)) (shifted (get_or trail.steps j blank)) (λ e. differ (omega (arith, one.first, two.first, e))))
 
-    below : (q : ℕ) → list_any (eqb q) (map place_of trail.steps) ≡ true → q < trail.vars
+    below : (q : ℕ) → list_any (eqb q) (map shifted trail.steps) ≡ true → q < trail.vars
     below q any =
-        let some = Any-from_list_any (eqb q) (map place_of trail.steps) any in
-        let within : some.0 < length trail.steps = omega (arith, some.2, length-map trail.steps place_of) in
+        let some = Any-from_list_any (eqb q) (map shifted trail.steps) any in
+        let within : some.0 < length trail.steps = omega (arith, some.2, length-map trail.steps shifted) in
         let o = over some.0 within in
-        let e : q ≡ place_of (get_or trail.steps some.0 blank) = eqb-true q some.1 some.4 ∙ sym some.3 ∙ at some.0 some.1 within in
+        let e : q ≡ shifted (get_or trail.steps some.0 blank) = eqb-true q some.1 some.4 ∙ sym some.3 ∙ at some.0 some.1 within in
         omega (arith, e, o.first, o.last)
 
 -- a level is at most the number of assignments

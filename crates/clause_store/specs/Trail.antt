@@ -1,5 +1,5 @@
 -- A trail is the list of its assignments in order. What its calls answer are functions of that list.
-use Rattle.std.specs.Prelude.{◌≡◌, ◌≢◌, ◌≤◌, ◌+◌, ◌*◌, ◌==◌, ℕ, Bool, true, false, max, map, filter, nat_le, if◌then◌else◌, List, [], ◌∷◌, take, find, slice_get, All, AllPairs, Contains, Option, None, Some, option_map, option_and_then, IsSome, ⊤}
+use Rattle.std.specs.Prelude.{◌≡◌, ◌≢◌, ◌≤◌, ◌+◌, ◌*◌, ◌==◌, ℕ, Bool, true, false, max, map, filter, nat_le, if◌then◌else◌, List, [], ◌∷◌, take, find, position, slice_get, All, AllPairs, Contains, Option, None, Some, option_map, option_and_then, IsSome, ⊤}
 use Rattle.std.specs.List.{range_with_len}
 use Rattle.clause_store.specs.declared.literal.Lit.{Lit}
 use Rattle.clause_store.specs.declared.literal.ClauseRef.{ClauseRef}
@@ -16,6 +16,10 @@ pub record Assigned : Type 0 where
 -- the assignment of a variable, if it has one
 abbrev pub step_of : List Step → ℕ → Option Step
 step_of steps var = find (λ step. variable step.lit == var) steps
+
+-- the place of the assignment of a variable among all, if it has one
+abbrev pub place_of : List Step → ℕ → Option ℕ
+place_of steps var = position (λ step. variable step.lit == var) steps
 
 -- what the assignment of its variable makes of a literal
 abbrev pub value_by : Option Step → Lit → Value

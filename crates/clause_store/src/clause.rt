@@ -1,6 +1,6 @@
 // A clause keeps up to four literals in place. One that holds nothing has no vector, so that opening
 // it takes no memory and no allocator.
-ghost use Rattle.std.specs.Prelude.{◌≡◌, [], ◌∷◌, ◌++◌, ◌<◌, length, slice_get, Some, OnOk, OnErr, IfOk};
+ghost use Rattle.std.specs.Prelude.{◌≡◌, [], ◌∷◌, ◌++◌, ◌<◌, length, take, slice_get, slice_set, Some, OnOk, OnErr, IfOk};
 
 use crate::Lit;
 use plain_list::{Copied, List, NoMemory};
@@ -83,6 +83,26 @@ impl Clause {
                     Err(_) => Err(NoMemory),
                 }
             }
+        }
+    }
+
+    /// Puts a literal in the place of the one at place `at`, from 0.
+    pub fn set(&mut self, at: usize, lit: Lit)
+        requires { at < length self.old }
+        ensures { self.new ≡ slice_set self.old at lit }
+    {
+        match &mut self.held {
+            Some(lits) => lits[at] = lit,
+            None => unreachable!(),
+        }
+    }
+
+    /// Keeps the first `len` literals.
+    pub fn truncate(&mut self, len: usize)
+        ensures { self.new ≡ take len self.old }
+    {
+        if let Some(lits) = &mut self.held {
+            lits.truncate(len);
         }
     }
 

@@ -1,9 +1,9 @@
-// The assignments in order, and beside them two arrays that answer at once: the assignment of each
-// variable and the value of each literal. Each variable is assigned at most once, so the room that
+// The assignments in order, and beside them two arrays that answer at once: the place of each
+// variable's assignment and the value of each literal. Each variable is assigned at most once, so the room that
 // `open` reserves for one assignment a variable always suffices.
 ghost use Rattle.std.specs.Prelude.{◌≡◌, ◌<◌, ◌≤◌, ◌^◌, [], ◌∷◌, ◌++◌, ◌+◌, length, Some, None, IfOk, IsTrue, ◌↔◌};
 ghost use Rattle.clause_store.specs.Clause.{IsOver};
-ghost use Rattle.clause_store.specs.Trail.{IsTrail, IsTrailOf, IsReasonFor, StaysTrail, value_of, reason_of, level_of, present_level, next_level, up_to};
+ghost use Rattle.clause_store.specs.Trail.{IsTrail, IsTrailOf, IsReasonFor, StaysTrail, step_of, place_of, value_of, reason_of, level_of, present_level, next_level, up_to};
 ghost use Rattle.clause_store.specs.Arrays.{IsWithoutLast};
 
 use crate::{ClauseRef, Lit, Step, Store, Value, Var};
@@ -16,7 +16,7 @@ use std::marker::Model;
 pub struct Trail {
     vars: u32,
     steps: Vec<Step>,
-    by_var: Vec<Option<Step>>,
+    places: Vec<Option<u32>>,
     values: Vec<Value>,
 }
 
@@ -29,7 +29,7 @@ impl Model for Trail {
 
     ghost view = { λ trail. record { vars = trail.vars; steps = trail.steps.items } };
 
-    ghost invariant = { λ trail. IsKept trail.vars trail.steps.items (vec_len trail.steps) (vec_capacity trail.steps) trail.by_var.items trail.values.items };
+    ghost invariant = { λ trail. IsKept trail.vars trail.steps.items (vec_len trail.steps) (vec_capacity trail.steps) trail.places.items trail.values.items };
 }
 
 impl Trail {
@@ -40,12 +40,12 @@ impl Trail {
     {
         let count = vars as usize;
         let steps = Vec::with_capacity(alloc, count)?;
-        let by_var = vec![in alloc; None; count + 1]?;
+        let places = vec![in alloc; None; count + 1]?;
         let values = vec![in alloc; Value::Unset; 2 * count + 2]?;
         Ok(Trail {
             vars,
             steps,
-            by_var,
+            places,
             values,
         })
     }
@@ -88,7 +88,7 @@ impl Trail {
         requires { var.0 ≤ self.now.vars }
         ensures { result ≡ reason_of self.now.steps var.0 }
     {
-        match self.by_var[var.0 as usize] {
+        match self.step_of(var) {
             Some(step) => step.reason,
             None => None,
         }
@@ -99,8 +99,30 @@ impl Trail {
         requires { var.0 ≤ self.now.vars }
         ensures { result ≡ level_of self.now.steps var.0 }
     {
-        match self.by_var[var.0 as usize] {
+        match self.step_of(var) {
             Some(step) => Some(step.level),
+            None => None,
+        }
+    }
+
+    /// The place of a variable's assignment among the steps. None is an unset variable.
+    pub fn place_of(&self, var: Var) -> Option<usize>
+        requires { var.0 ≤ self.now.vars }
+        ensures { result ≡ place_of self.now.steps var.0 }
+    {
+        match self.places[var.0 as usize] {
+            Some(place) => Some(place as usize),
+            None => None,
+        }
+    }
+
+    /// The assignment of a variable.
+    fn step_of(&self, var: Var) -> Option<Step>
+        requires { var.0 ≤ self.now.vars }
+        ensures { result ≡ step_of self.now.steps var.0 }
+    {
+        match self.place_of(var) {
+            Some(place) => Some(self.steps[place]),
             None => None,
         }
     }
@@ -168,8 +190,9 @@ impl Trail {
         requires level { step.level ≡ next_level (present_level self.old.steps) step.reason }
         ensures { self.new ≡ record self.old { steps = self.old.steps ++ step ∷ [] } }
     {
+        let place = self.steps.len() as u32;
         self.steps.push_reserved(step);
-        self.by_var[step.lit.var().0 as usize] = Some(step);
+        self.places[step.lit.var().0 as usize] = Some(place);
         self.values[step.lit.0 as usize] = Value::Yes;
         self.values[step.lit.negated().0 as usize] = Value::No;
     }
@@ -181,7 +204,7 @@ impl Trail {
         ensures steps { IsWithoutLast self.old.steps self.new.steps }
     {
         if let Some(step) = self.steps.pop() {
-            self.by_var[step.lit.var().0 as usize] = None;
+            self.places[step.lit.var().0 as usize] = None;
             self.values[step.lit.0 as usize] = Value::Unset;
             self.values[step.lit.negated().0 as usize] = Value::Unset;
         }
