@@ -1,8 +1,8 @@
 -- Each step of the walk keeps what is true on the way.
 use Rattle.std.proofs.Common.{◌≡◌, ◌≢◌, ℕ, ◌+◌, ◌-◌, ◌<◌, ◌≤◌, ◌^◌, Bool, true, false, eqb, List, [], ◌∷◌, ◌++◌, length, set, take, get_or, Some, refl, sym, ap, ap₂, ◌∙◌, subst, add-zero, inl, inr, arith}
 use Rattle.std.specs.Prelude.{All, Any, Contains, slice_get, count_by, IsTrue, ◌&&◌}
-use Rattle.std.proofs.lemmas.Bool.{cases_eq, eq-eqb, ne_eqb, false≢true}
-use Rattle.std.proofs.lemmas.List.{length-set, length-take, length-take-le, get_or_default}
+use Rattle.std.proofs.lemmas.Bool.{cases_Bool, cases_eq, eq-eqb, ne_eqb, false≢true}
+use Rattle.std.proofs.lemmas.List.{length-set, length-take, length-take-le}
 use Rattle.std.proofs.lemmas.List.Sums.{count_by-le-length, sum_by_push}
 use Rattle.std.proofs.lemmas.List.Elements.{All-nil, All-head, All-tail, All-contains, All-contains_itself, All-push, All-weaker, Contains-append_left, Contains-push}
 use Rattle.std.proofs.lemmas.List.Quantifiers.{all_pairs_push}
@@ -18,7 +18,7 @@ use Rattle.conflict_learning.specs.declared.walk.Walk.{Walk}
 use Rattle.conflict_learning.specs.Analysis.{IsFalse, StandsIn, level_at}
 use Rattle.conflict_learning.specs.Marks.{HasNoMark, is_marked, IsMarked, is_open}
 use Rattle.conflict_learning.specs.Walk.{IsLower, IsProgress, IsUnderWay, Begins, IsLater, IsNoted, Notes, NotesAll, GoesBack}
-use Rattle.conflict_learning.proofs.AssignedLemmas.{step_of_before, IsRefuter, refuter, false_later, trail_before, below_present, take_there, step_at, level_found}
+use Rattle.conflict_learning.proofs.AssignedLemmas.{step_of_before, IsRefuter, refuter, false_later, false_over, trail_before, below_present, take_there, step_at, level_found}
 use Rattle.conflict_learning.proofs.MarkLemmas.{one_if, marked_new, marked_kept, marked_before, count_marked, count_none}
 use Rattle.conflict_learning.proofs.GivenLemmas.{open_parts, from_front}
 
@@ -170,14 +170,17 @@ progress_same trail marks marks' clause clause' level level' unresolved unresolv
     (subst (λ ls. IsProgress trail marks' ls level unresolved at) c
     (subst (λ ms. IsProgress trail ms clause level unresolved at) m way))))
 
--- a mark that was read as false
-pub no_mark : (marks : List Bool) (var place : ℕ) (read : Bool) → place ≡ var → read ≡ get_or marks place read → read ≡ false → is_marked marks var ≡ false
-no_mark marks var place read at is wrong =
-    ap (λ n. get_or marks n false) (sym at) ∙ sym (subst (λ b. b ≡ get_or marks place b) wrong is)
+-- the variable of a literal that is noted is one of the trail
+pub note_over : (trail : Assigned) (walk : Walk) (lit : Lit) → IsUnderWay trail walk → IsFalse (take walk.at trail.steps) lit → IsOver trail.vars lit
+note_over trail walk lit way wrong = false_over trail lit way.is_trail (false_later walk.at trail.steps lit wrong)
 
-pub a_mark : (marks : List Bool) (var place : ℕ) (read : Bool) → place ≡ var → read ≡ get_or marks place read → read ≡ true → place < length marks → IsMarked marks var
-a_mark marks var place read at is right within =
-    ap (λ n. get_or marks n false) (sym at) ∙ get_or_default marks place false true within ∙ sym (subst (λ b. b ≡ get_or marks place b) right is)
+-- what wasn't noted isn't marked
+pub not_noted : (steps : List Step) (walk : Walk) (lit : Lit) → (IsNoted steps walk lit → IsTrue false) → is_marked walk.marks.items (variable lit) ≡ false
+not_noted steps walk lit other =
+    elim (cases_Bool (is_marked walk.marks.items (variable lit))) [
+      | inl marked ↦ absurd (false≢true (other (λ above. marked)))
+      | inr unmarked ↦ unmarked
+    ]
 
 pub later_itself : (walk : Walk) → IsLater walk walk
 later_itself walk = record { at = refl; level = refl; unresolved = omega arith; marks = λ var is. is; clause = All-contains_itself walk.clause }

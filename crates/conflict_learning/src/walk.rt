@@ -2,12 +2,12 @@
 // open assignment, the literal that it made false. An assignment is open where its variable is marked
 // and it is of the present level and not passed yet. The table of marks and the clause are lent by who
 // walks, and given back at the end.
-ghost use Rattle.std.specs.Prelude.{◌≡◌, ◌≢◌, ◌<◌, ◌∷◌, [], ◌++◌, ◌^◌, ℕ, All, List, take, length, OnOk, IfOk};
+ghost use Rattle.std.specs.Prelude.{◌≡◌, ◌≢◌, ◌<◌, ◌∷◌, [], ◌++◌, ◌^◌, ◌↔◌, ℕ, All, List, IsTrue, take, length, OnOk, IfOk};
 ghost use Rattle.clause_store.specs.Clause.{variable, IsOver};
 ghost use Rattle.clause_store.specs.Trail.{IsTrailOf};
 ghost use Rattle.conflict_learning.specs.Analysis.{IsFalse, level_at};
 ghost use Rattle.conflict_learning.specs.Marks.{HasNoMark, is_open};
-ghost use Rattle.conflict_learning.specs.Walk.{Begins, IsUnderWay, IsNotable, Notes, NotesAll, GoesBack, ResolvesTo};
+ghost use Rattle.conflict_learning.specs.Walk.{Begins, IsUnderWay, IsNotable, IsNoted, Notes, NotesAll, GoesBack, ResolvesTo};
 
 use crate::marks::{unmark_lits, unmark_steps};
 use clause_store::{Clause, Lit, NoMemory, Step, Store, Trail, Value};
@@ -68,12 +68,11 @@ impl Walk {
         requires is_false { IsFalse (take self.old.at trail.now.steps) lit }
         ensures { OnOk result (Notes trail.now self.old self.new lit) }
     {
-        let place = lit.var().0 as usize;
-        let level = level_at(trail, lit);
-        if level == 0 || self.marks[place] {
+        if self.has_noted(trail, lit) {
             return Ok(());
         }
-        if level == self.level {
+        let place = lit.var().0 as usize;
+        if level_at(trail, lit) == self.level {
             self.marks[place] = true;
             self.unresolved += 1;
             return Ok(());
@@ -81,6 +80,15 @@ impl Walk {
         self.clause.push(alloc, lit)?;
         self.marks[place] = true;
         Ok(())
+    }
+
+    /// Whether a literal was noted before or is of level 0.
+    fn has_noted(&self, trail: &Trail, lit: Lit) -> bool
+        requires over { IsOver trail.now.vars lit }
+        requires sized { trail.now.vars < length self.now.marks.items }
+        ensures { IsTrue result ↔ IsNoted trail.now.steps self.now lit }
+    {
+        level_at(trail, lit) == 0 || self.marks[lit.var().0 as usize]
     }
 
     /// Passes the last open assignment and those behind it.
