@@ -2,7 +2,7 @@
 use Rattle.std.proofs.Common.{◌≡◌, ◌≢◌, ℕ, ◌+◌, ◌/◌, ◌<◌, ◌≤◌, max, Bool, true, false, cond, eqb, not, List, [], ◌∷◌, ◌++◌, length, take, get_or, Option, Some, None, refl, sym, ap, ap₂, ◌∙◌, subst, inl, inr, arith}
 use Rattle.std.specs.Prelude.{All, Any, Contains, slice_get, count_by, filter, IsSome, IsTrue, unwrap_or}
 use Rattle.std.proofs.lemmas.Bool.{cases_Bool, cases_eq, eq-eqb, ne_eqb, false≢true, not_from_false}
-use Rattle.std.proofs.lemmas.List.{append-nil}
+use Rattle.std.proofs.lemmas.List.{append-nil, take_more}
 use Rattle.std.proofs.Math.Seq.{take-length}
 use Rattle.std.proofs.lemmas.List.Elements.{All-head, All-tail, All-cons, All-contains, All-contains_itself, All-push, All-weaker, Contains-append_left, Contains-push, filter-append}
 use Rattle.std.proofs.lemmas.List.Quantifiers.{all_pairs_push}
@@ -256,6 +256,11 @@ learned_others clauses trail noted done lit to =
 pub greatest_push : (steps : List Step) (xs : List Lit) (x : Lit) → greatest_level steps (xs ++ x ∷ []) ≡ max (greatest_level steps xs) (level_at steps x)
 greatest_push steps [] x = omega arith
 greatest_push steps (y ∷ xs) x = omega (arith, greatest_push steps xs x)
+
+-- the greatest level of one literal more of a row
+pub greatest_more : (steps : List Step) (lits : List Lit) (at : ℕ) (d : Lit) → at < length lits
+    → greatest_level steps (take (at + 1) lits) ≡ max (greatest_level steps (take at lits)) (level_at steps (get_or lits at d))
+greatest_more steps lits at d within = ap (greatest_level steps) (take_more lits at d within) ∙ greatest_push steps (take at lits) (get_or lits at d)
 
 -- ---- the conflict
 

@@ -1,8 +1,8 @@
 -- Each step of the walk keeps what is true on the way.
-use Rattle.std.proofs.Common.{◌≡◌, ◌≢◌, ℕ, zero, suc, ◌+◌, ◌-◌, ◌<◌, ◌≤◌, ◌^◌, Bool, true, false, eqb, List, [], ◌∷◌, ◌++◌, length, set, take, get_or, Some, refl, sym, ap, ap₂, ◌∙◌, subst, add-zero, inl, inr, arith}
-use Rattle.std.specs.Prelude.{All, Contains, slice_get, count_by, IsTrue, replicate, ◌&&◌}
-use Rattle.std.proofs.lemmas.Bool.{cases_eq, eq-eqb, ne_eqb, false≢true}
-use Rattle.std.proofs.lemmas.List.{length-set, length-replicate, length-take, length-take-le, get_or_default}
+use Rattle.std.proofs.Common.{◌≡◌, ◌≢◌, ℕ, ◌+◌, ◌-◌, ◌<◌, ◌≤◌, ◌^◌, Bool, true, false, eqb, List, [], ◌∷◌, ◌++◌, length, set, take, get_or, Some, refl, sym, ap, ap₂, ◌∙◌, subst, add-zero, inl, inr, arith}
+use Rattle.std.specs.Prelude.{All, Any, Contains, slice_get, count_by, IsTrue, ◌&&◌}
+use Rattle.std.proofs.lemmas.Bool.{cases_Bool, cases_eq, eq-eqb, ne_eqb, false≢true}
+use Rattle.std.proofs.lemmas.List.{length-set, length-take, length-take-le}
 use Rattle.std.proofs.lemmas.List.Sums.{count_by-le-length, sum_by_push}
 use Rattle.std.proofs.lemmas.List.Elements.{All-nil, All-head, All-tail, All-contains, All-contains_itself, All-push, All-weaker, Contains-append_left, Contains-push}
 use Rattle.std.proofs.lemmas.List.Quantifiers.{all_pairs_push}
@@ -13,12 +13,12 @@ use Rattle.clause_store.specs.Clause.{variable, negation, HasAll, IsOver}
 use Rattle.clause_store.specs.Entailment.{negations}
 use Rattle.clause_store.specs.Trail.{Assigned, IsTrail, step_of, present_level}
 use Rattle.clause_store.proofs.StepLemmas.{trail_fits}
-use Rattle.clause_store.proofs.LiteralLemmas.{all_through, negation-negation}
+use Rattle.clause_store.proofs.LiteralLemmas.{all_through, any_from, negation-negation}
 use Rattle.conflict_learning.specs.declared.walk.Walk.{Walk}
 use Rattle.conflict_learning.specs.Analysis.{IsFalse, StandsIn, level_at}
-use Rattle.conflict_learning.specs.Marks.{is_marked, IsMarked, is_open}
+use Rattle.conflict_learning.specs.Marks.{HasNoMark, is_marked, IsMarked, is_open}
 use Rattle.conflict_learning.specs.Walk.{IsLower, IsProgress, IsUnderWay, Begins, IsLater, IsNoted, Notes, NotesAll, GoesBack}
-use Rattle.conflict_learning.proofs.AssignedLemmas.{step_of_before, IsRefuter, refuter, false_later, trail_before, below_present, take_there, step_at, level_found}
+use Rattle.conflict_learning.proofs.AssignedLemmas.{step_of_before, IsRefuter, refuter, false_later, false_over, trail_before, below_present, take_there, step_at, level_found}
 use Rattle.conflict_learning.proofs.MarkLemmas.{one_if, marked_new, marked_kept, marked_before, count_marked, count_none}
 use Rattle.conflict_learning.proofs.GivenLemmas.{open_parts, from_front}
 
@@ -68,6 +68,15 @@ lower_kept steps marks level var clause inside =
     All-weaker (IsLower steps marks level) (IsLower steps (set marks var true) level)
     (λ lit is. record { is_false = is.is_false; below = is.below; marked = marked_kept marks var (variable lit) inside is.marked }) clause
 
+-- the new mark is that of an assigned variable
+assigned_more : (trail : Assigned) (marks : List Bool) (lit : Lit) (step : Step) → Contains trail.steps step → variable step.lit ≡ variable lit
+    → ((var : ℕ) → IsMarked marks var → Any (λ s. variable s.lit ≡ var) trail.steps) → (var : ℕ) → IsMarked (set marks (variable lit) true) var → Any (λ s. variable s.lit ≡ var) trail.steps
+assigned_more trail marks lit step here same before var marked =
+    elim (cases_eq var (variable lit)) [
+      | inl it ↦ any_from (λ s. variable s.lit ≡ var) trail.steps step here (same ∙ sym it)
+      | inr other ↦ before var (marked_before marks (variable lit) var other marked)
+    ]
+
 -- one more of the present level is open
 pub progress_open : (trail : Assigned) (marks : List Bool) (clause : List Lit) (level unresolved at : ℕ) (lit : Lit) → IsProgress trail marks clause level unresolved at → IsFalse (take at trail.steps) lit
     → is_marked marks (variable lit) ≡ false → level_at trail.steps lit ≡ level → IsProgress trail (set marks (variable lit) true) clause level (unresolved + 1) at
@@ -77,9 +86,10 @@ progress_open trail marks clause level unresolved at lit way wrong unmarked same
     record {
       is_trail = way.is_trail;
       few = way.few;
-      sized = length-set marks (variable lit) true ∙ way.sized;
+      sized = omega (arith, length-set marks (variable lit) true, way.sized);
       level_is = way.level_is;
       within = way.within;
+      assigned = assigned_more trail marks lit f.by.step (from_front at trail.steps f.by.step f.by.here) f.by.same way.assigned;
       counted = omega (arith, way.counted, f.count, one);
       lower = lower_kept trail.steps marks level (variable lit) clause f.inside way.lower;
       once = way.once;
@@ -102,9 +112,10 @@ progress_lower trail marks clause level unresolved at lit way wrong unmarked dif
     record {
       is_trail = way.is_trail;
       few = way.few;
-      sized = length-set marks (variable lit) true ∙ way.sized;
+      sized = omega (arith, length-set marks (variable lit) true, way.sized);
       level_is = way.level_is;
       within = way.within;
+      assigned = assigned_more trail marks lit f.by.step (from_front at trail.steps f.by.step f.by.here) f.by.same way.assigned;
       counted = omega (arith, way.counted, f.count, none);
       lower = All-push (IsLower trail.steps (set marks (variable lit) true) level) clause lit (lower_kept trail.steps marks level (variable lit) clause f.inside way.lower)
           (record { is_false = false_later at trail.steps lit wrong; below = omega (arith, low, way.level_is, differ); marked = marked_new marks (variable lit) f.inside });
@@ -159,14 +170,17 @@ progress_same trail marks marks' clause clause' level level' unresolved unresolv
     (subst (λ ls. IsProgress trail marks' ls level unresolved at) c
     (subst (λ ms. IsProgress trail ms clause level unresolved at) m way))))
 
--- a mark that was read as false
-pub no_mark : (marks : List Bool) (var place : ℕ) (read : Bool) → place ≡ var → read ≡ get_or marks place read → read ≡ false → is_marked marks var ≡ false
-no_mark marks var place read at is wrong =
-    ap (λ n. get_or marks n false) (sym at) ∙ sym (subst (λ b. b ≡ get_or marks place b) wrong is)
+-- the variable of a literal that is noted is one of the trail
+pub note_over : (trail : Assigned) (walk : Walk) (lit : Lit) → IsUnderWay trail walk → IsFalse (take walk.at trail.steps) lit → IsOver trail.vars lit
+note_over trail walk lit way wrong = false_over trail lit way.is_trail (false_later walk.at trail.steps lit wrong)
 
-pub a_mark : (marks : List Bool) (var place : ℕ) (read : Bool) → place ≡ var → read ≡ get_or marks place read → read ≡ true → place < length marks → IsMarked marks var
-a_mark marks var place read at is right within =
-    ap (λ n. get_or marks n false) (sym at) ∙ get_or_default marks place false true within ∙ sym (subst (λ b. b ≡ get_or marks place b) right is)
+-- what wasn't noted isn't marked
+pub not_noted : (steps : List Step) (walk : Walk) (lit : Lit) → (IsNoted steps walk lit → IsTrue false) → is_marked walk.marks.items (variable lit) ≡ false
+not_noted steps walk lit other =
+    elim (cases_Bool (is_marked walk.marks.items (variable lit))) [
+      | inl marked ↦ absurd (false≢true (other (λ above. marked)))
+      | inr unmarked ↦ unmarked
+    ]
 
 pub later_itself : (walk : Walk) → IsLater walk walk
 later_itself walk = record { at = refl; level = refl; unresolved = omega arith; marks = λ var is. is; clause = All-contains_itself walk.clause }
@@ -359,6 +373,7 @@ search_ends trail old now new step way searching some last is_it marks clause le
             sized = way.sized;
             level_is = way.level_is;
             within = omega (arith, way.within, searching.within);
+            assigned = way.assigned;
             counted = omega (arith, count);
             lower = way.lower;
             once = way.once;
@@ -390,33 +405,27 @@ search_ends trail old now new step way searching some last is_it marks clause le
 
 -- ---- the walk begins
 
-pub no_marks : (n var : ℕ) → is_marked (replicate n false) var ≡ false
-no_marks zero var = refl
-no_marks (suc n) zero = refl
-no_marks (suc n) (suc var) = no_marks n var
-
-pub begins : (trail : Assigned) (walk : Walk) → IsTrail trail → trail.vars < 2 ^ 31 → walk.marks.items ≡ replicate (trail.vars + 1) false → walk.clause ≡ [] → walk.level ≡ present_level trail.steps
+pub begins : (trail : Assigned) (walk : Walk) → IsTrail trail → trail.vars < 2 ^ 31 → trail.vars < length walk.marks.items → HasNoMark walk.marks.items → walk.clause ≡ [] → walk.level ≡ present_level trail.steps
     → walk.unresolved ≡ 0 → walk.at ≡ length trail.steps → Begins trail walk
-begins trail walk is few marks clause level unresolved at =
+begins trail walk is few sized unmarked clause level unresolved at =
     record {
-      under_way = progress_same trail (replicate (trail.vars + 1) false) walk.marks.items [] walk.clause walk.level walk.level 0 walk.unresolved walk.at walk.at
-          (sym marks) (sym clause) refl (sym unresolved) refl
+      under_way = progress_same trail walk.marks.items walk.marks.items [] walk.clause walk.level walk.level 0 walk.unresolved walk.at walk.at refl (sym clause) refl (sym unresolved) refl
           (record {
             is_trail = is;
             few = few;
-            sized = length-replicate (trail.vars + 1) false;
+            sized = sized;
             level_is = level;
             within = omega (arith, at);
-            counted = sym (count_none (is_open (replicate (trail.vars + 1) false) walk.level) (take walk.at trail.steps)
-                (λ k d inside. ap (λ b. b && eqb (get_or (take walk.at trail.steps) k d).level walk.level) (no_marks (trail.vars + 1) (variable (get_or (take walk.at trail.steps) k d).lit))));
-            lower = All-nil (IsLower trail.steps (replicate (trail.vars + 1) false) walk.level);
+            assigned = λ var marked. absurd (false≢true (sym (unmarked var) ∙ marked));
+            counted = sym (count_none (is_open walk.marks.items walk.level) (take walk.at trail.steps)
+                (λ k d inside. ap (λ b. b && eqb (get_or (take walk.at trail.steps) k d).level walk.level) (unmarked (variable (get_or (take walk.at trail.steps) k d).lit))));
+            lower = All-nil (IsLower trail.steps walk.marks.items walk.level);
             once = λ i j d before inside. absurd (omega (arith, inside));
-            kept = λ k d inside marked. absurd (false≢true (sym (no_marks (trail.vars + 1) (variable (get_or trail.steps k d).lit)) ∙ marked));
+            kept = λ k d inside marked. absurd (false≢true (sym (unmarked (variable (get_or trail.steps k d).lit)) ∙ marked));
           });
       at = at;
       stands = λ clauses. record {
         lower = subst (All (StandsIn clauses)) (sym clause) (All-nil (StandsIn clauses));
-        marked = subst (λ ms. All (λ step. IsMarked ms (variable step.lit) → StandsIn clauses (negation step.lit)) trail.steps) (sym marks)
-            (λ k d inside marked. absurd (false≢true (sym (no_marks (trail.vars + 1) (variable (get_or trail.steps k d).lit)) ∙ marked)));
+        marked = λ k d inside marked. absurd (false≢true (sym (unmarked (variable (get_or trail.steps k d).lit)) ∙ marked));
       };
     }

@@ -1,5 +1,5 @@
 -- Marked variables, and which assignments wait to be resolved. No public clause cites this module.
-use Rattle.std.specs.Prelude.{ℕ, Bool, false, ◌&&◌, ◌==◌, List, slice_index_or, IsTrue}
+use Rattle.std.specs.Prelude.{◌≡◌, ℕ, Bool, false, ◌&&◌, ◌==◌, List, slice_index_or, IsTrue}
 use Rattle.clause_store.specs.declared.step.Step.{Step}
 use Rattle.clause_store.specs.Clause.{variable}
 
@@ -10,6 +10,10 @@ is_marked marks var = slice_index_or marks var false
 -- a variable is marked
 abbrev pub IsMarked : List Bool → ℕ → Type 0
 IsMarked marks var = IsTrue (is_marked marks var)
+
+-- no variable is marked
+abbrev pub HasNoMark : List Bool → Type 0
+HasNoMark marks = (var : ℕ) → is_marked marks var ≡ false
 
 -- whether the variable of an assignment is marked
 abbrev pub has_mark : List Bool → Step → Bool

@@ -1,6 +1,6 @@
 -- The walk back over a trail: what is true on the way, and what each step does. No public clause cites
 -- this module.
-use Rattle.std.specs.Prelude.{◌≡◌, ◌≢◌, ◌<◌, ◌≤◌, ◌+◌, ◌^◌, ℕ, Bool, List, [], ◌∷◌, ◌++◌, length, take, All, Contains, IsTrue, count_by, slice_get, Some}
+use Rattle.std.specs.Prelude.{◌≡◌, ◌≢◌, ◌<◌, ◌≤◌, ◌^◌, ℕ, Bool, List, [], ◌∷◌, ◌++◌, length, take, All, Any, Contains, IsTrue, count_by, slice_get, Some}
 use Rattle.clause_store.specs.declared.literal.Lit.{Lit}
 use Rattle.clause_store.specs.declared.step.Step.{Step}
 use Rattle.clause_store.specs.Clause.{variable, negation, HasAll, HasNoVariableTwice, IsOver}
@@ -16,14 +16,15 @@ pub record IsLower (steps : List Step) (marks : List Bool) (level : ℕ) (lit : 
   pub below : level_at steps lit < level
   pub marked : IsMarked marks (variable lit)
 
--- what is true on the way: as many assignments are open as were counted, and each other marked one has
--- its literal in the clause
+-- what is true on the way: only assigned variables are marked, as many assignments are open as were
+-- counted, and each other marked one has its literal in the clause
 pub record IsProgress (trail : Assigned) (marks : List Bool) (clause : List Lit) (level unresolved at : ℕ) : Type 0 where
   pub is_trail : IsTrail trail
   pub few : trail.vars < 2 ^ 31
-  pub sized : length marks ≡ trail.vars + 1
+  pub sized : trail.vars < length marks
   pub level_is : level ≡ present_level trail.steps
   pub within : at ≤ length trail.steps
+  pub assigned : (var : ℕ) → IsMarked marks var → Any (λ step. variable step.lit ≡ var) trail.steps
   pub counted : unresolved ≡ count_by (is_open marks level) (take at trail.steps)
   pub lower : All (IsLower trail.steps marks level) clause
   pub once : HasNoVariableTwice clause

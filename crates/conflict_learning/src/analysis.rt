@@ -7,9 +7,10 @@ ghost use Rattle.clause_store.specs.Trail.{IsTrailOf, present_level};
 ghost use Rattle.conflict_learning.specs.Analysis.{IsConflict, IsFalse, StandsIn, IsAsserting, greatest_level};
 
 use crate::Learned;
-use crate::walk::Walk;
-use clause_store::{ClauseRef, Lit, NoMemory, Store, Trail};
+use crate::walk::{Walk, level_at};
+use clause_store::{Clause, ClauseRef, Lit, NoMemory, Store, Trail};
 use std::alloc::Global;
+use std::mem;
 
 /// Learns from a conflict. After want of memory `learned` may hold any clause.
 pub fn analyse(
@@ -35,11 +36,15 @@ pub fn analyse(
     ensures asserting { OnOk result (IsAsserting trail.now.steps learned.new.clause learned.new.asserting) }
     ensures back { OnOk result (learned.new.back ≡ greatest_level trail.now.steps (others learned.new.clause learned.new.asserting)) }
 {
-    let mut walk = Walk::begin(alloc, trail)?;
+    let marks = learned.marks.take(alloc, trail.vars())?;
+    let room = mem::replace(&mut learned.clause, Clause::open());
+    let mut walk = Walk::begin(trail, marks, room);
     walk.note_all(alloc, trail, store.lits(conflict))?;
     let asserting = walk.resolve(alloc, store, trail)?;
     let back = greatest_level(trail, walk.clause());
-    learned.clause = walk.into_clause(alloc, asserting)?;
+    let (clause, unmarked) = walk.finish(alloc, trail, asserting)?;
+    learned.marks.put_back(unmarked);
+    learned.clause = clause;
     learned.back = back;
     learned.asserting = asserting;
     Ok(())
@@ -52,8 +57,7 @@ fn greatest_level(trail: &Trail, lits: &[Lit]) -> u32
 {
     let mut greatest: u32 = 0;
     for lit in lits {
-        let level = trail.level_of(lit.var()).unwrap_or(0);
-        greatest = greatest.max(level);
+        greatest = greatest.max(level_at(trail, *lit));
     }
     greatest
 }

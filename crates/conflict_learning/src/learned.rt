@@ -1,5 +1,6 @@
 ghost use Rattle.std.specs.Prelude.{◌≡◌, []};
 
+use crate::marks::Marks;
 use clause_store::{Clause, Lit};
 
 /// What a conflict teaches.
@@ -11,6 +12,7 @@ pub struct Learned {
     pub back: u32,
     /// The one literal of the clause that is of the present level.
     pub asserting: Lit,
+    pub(crate) marks: Marks,
 }
 
 impl Learned {
@@ -22,6 +24,7 @@ impl Learned {
             clause: Clause::open(),
             back: 0,
             asserting: Lit(0),
+            marks: Marks::open(),
         }
     }
 }

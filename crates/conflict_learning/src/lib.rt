@@ -4,6 +4,7 @@
 
 mod analysis;
 mod learned;
+mod marks;
 mod refusal;
 mod walk;
 

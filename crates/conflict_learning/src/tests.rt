@@ -1,18 +1,35 @@
 use super::*;
-use clause_store::{Clause, Lit, Store, Trail};
+use clause_store::{Clause, Lit, NoMemory, Store, Trail};
+use std::alloc::Global;
 use std::test::Fail;
 
-#[test]
-fn one_level_is_learned_from(rt: HostRuntime) -> Result<(), Fail> {
-    let alloc = rt.alloc();
+/// Learns that variable 1 is false, on a trail of two variables.
+fn learn_at_one_level(alloc: Global, learned: &mut Learned) -> Result<(), NoMemory> {
     let mut store = Store::open();
     let why = store.add(alloc, &[Lit(3), Lit(4)])?;
     let conflict = store.add(alloc, &[Lit(3), Lit(5)])?;
     let mut trail = Trail::open(alloc, 2)?;
     trail.decide(Lit(2));
     trail.assign(&store, Lit(4), why);
+    analyse(alloc, &store, &trail, conflict, learned)
+}
+
+/// Learns that variable 1 or 8 is false, on a trail of nine variables.
+fn learn_at_two_levels(alloc: Global, learned: &mut Learned) -> Result<(), NoMemory> {
+    let mut store = Store::open();
+    let why = store.add(alloc, &[Lit(3), Lit(18)])?;
+    let conflict = store.add(alloc, &[Lit(17), Lit(19)])?;
+    let mut trail = Trail::open(alloc, 9)?;
+    trail.decide(Lit(2));
+    trail.decide(Lit(16));
+    trail.assign(&store, Lit(18), why);
+    analyse(alloc, &store, &trail, conflict, learned)
+}
+
+#[test]
+fn one_level_is_learned_from(rt: HostRuntime) -> Result<(), Fail> {
     let mut learned = Learned::open();
-    analyse(alloc, &store, &trail, conflict, &mut learned)?;
+    learn_at_one_level(rt.alloc(), &mut learned)?;
     assert!(rt; learned.clause.as_slice() == [Lit(3)].as_slice());
     assert_eq!(rt; (learned.back, learned.asserting), (0, Lit(3)));
     Ok(())
@@ -20,18 +37,24 @@ fn one_level_is_learned_from(rt: HostRuntime) -> Result<(), Fail> {
 
 #[test]
 fn two_levels_are_learned_from(rt: HostRuntime) -> Result<(), Fail> {
-    let alloc = rt.alloc();
-    let mut store = Store::open();
-    let why = store.add(alloc, &[Lit(3), Lit(6)])?;
-    let conflict = store.add(alloc, &[Lit(5), Lit(7)])?;
-    let mut trail = Trail::open(alloc, 3)?;
-    trail.decide(Lit(2));
-    trail.decide(Lit(4));
-    trail.assign(&store, Lit(6), why);
     let mut learned = Learned::open();
-    analyse(alloc, &store, &trail, conflict, &mut learned)?;
-    assert!(rt; learned.clause.as_slice() == [Lit(3), Lit(5)].as_slice());
-    assert_eq!(rt; (learned.back, learned.asserting), (1, Lit(5)));
+    learn_at_two_levels(rt.alloc(), &mut learned)?;
+    assert!(rt; learned.clause.as_slice() == [Lit(3), Lit(17)].as_slice());
+    assert_eq!(rt; (learned.back, learned.asserting), (1, Lit(17)));
+    Ok(())
+}
+
+#[test]
+fn one_place_serves_trails_of_different_sizes(rt: HostRuntime) -> Result<(), Fail> {
+    let mut learned = Learned::open();
+    learn_at_one_level(rt.alloc(), &mut learned)?;
+    assert!(rt; learned.clause.as_slice() == [Lit(3)].as_slice());
+    learn_at_two_levels(rt.alloc(), &mut learned)?;
+    assert!(rt; learned.clause.as_slice() == [Lit(3), Lit(17)].as_slice());
+    assert_eq!(rt; (learned.back, learned.asserting), (1, Lit(17)));
+    learn_at_one_level(rt.alloc(), &mut learned)?;
+    assert!(rt; learned.clause.as_slice() == [Lit(3)].as_slice());
+    assert_eq!(rt; (learned.back, learned.asserting), (0, Lit(3)));
     Ok(())
 }
 

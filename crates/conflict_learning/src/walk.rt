@@ -1,13 +1,15 @@
 // The walk back over a trail. The clause so far has the noted literals of lower levels and, for each
 // open assignment, the literal that it made false. An assignment is open where its variable is marked
-// and it is of the present level and not passed yet.
-ghost use Rattle.std.specs.Prelude.{◌≡◌, ◌≢◌, ◌<◌, ◌∷◌, [], ◌++◌, ℕ, All, List, take, length, OnOk, IfOk};
-ghost use Rattle.clause_store.specs.Clause.{variable};
+// and it is of the present level and not passed yet. The table of marks and the clause are lent by who
+// walks, and given back at the end.
+ghost use Rattle.std.specs.Prelude.{◌≡◌, ◌≢◌, ◌<◌, ◌∷◌, [], ◌++◌, ◌^◌, ◌↔◌, ℕ, All, List, IsTrue, take, length, OnOk, IfOk};
+ghost use Rattle.clause_store.specs.Clause.{variable, IsOver};
 ghost use Rattle.clause_store.specs.Trail.{IsTrailOf};
-ghost use Rattle.conflict_learning.specs.Analysis.{IsFalse};
-ghost use Rattle.conflict_learning.specs.Marks.{is_open};
-ghost use Rattle.conflict_learning.specs.Walk.{Begins, IsUnderWay, IsNotable, Notes, NotesAll, GoesBack, ResolvesTo};
+ghost use Rattle.conflict_learning.specs.Analysis.{IsFalse, level_at};
+ghost use Rattle.conflict_learning.specs.Marks.{HasNoMark, is_open};
+ghost use Rattle.conflict_learning.specs.Walk.{Begins, IsUnderWay, IsNotable, IsNoted, Notes, NotesAll, GoesBack, ResolvesTo};
 
+use crate::marks::{unmark_lits, unmark_steps};
 use clause_store::{Clause, Lit, NoMemory, Step, Store, Trail, Value};
 use std::alloc::Global;
 
@@ -22,18 +24,21 @@ pub struct Walk {
 }
 
 impl Walk {
-    /// Before the whole trail, with nothing noted.
-    pub fn begin(alloc: Global, trail: &Trail) -> Result<Walk, NoMemory>
-        ensures { IfOk result (Begins trail.now) }
+    /// Before the whole trail, with nothing noted. What the clause has is forgotten.
+    pub fn begin(trail: &Trail, marks: Vec<bool>, mut clause: Clause) -> Walk
+        requires few { trail.now.vars < 2 ^ 31 }
+        requires sized { trail.now.vars < length marks.items }
+        requires unmarked { HasNoMark marks.items }
+        ensures { Begins trail.now result }
     {
-        let marks = vec![in alloc; false; trail.vars() as usize + 1]?;
-        Ok(Walk {
+        clause.clear();
+        Walk {
             marks,
-            clause: Clause::open(),
+            clause,
             level: trail.level(),
             unresolved: 0,
             at: trail.steps().len(),
-        })
+        }
     }
 
     /// The noted literals of lower levels.
@@ -41,15 +46,6 @@ impl Walk {
         ensures { result.now ≡ self.now.clause }
     {
         self.clause.as_slice()
-    }
-
-    /// The noted literals of lower levels, and one literal more.
-    pub fn into_clause(self, alloc: Global, last: Lit) -> Result<Clause, NoMemory>
-        ensures { IfOk result (λ clause. clause ≡ self.clause ++ last ∷ []) }
-    {
-        let mut clause = self.clause;
-        clause.push(alloc, last)?;
-        Ok(clause)
     }
 
     /// Notes the literals of a clause that are false.
@@ -72,12 +68,11 @@ impl Walk {
         requires is_false { IsFalse (take self.old.at trail.now.steps) lit }
         ensures { OnOk result (Notes trail.now self.old self.new lit) }
     {
-        let place = lit.var().0 as usize;
-        let level = trail.level_of(lit.var()).unwrap_or(0);
-        if level == 0 || self.marks[place] {
+        if self.has_noted(trail, lit) {
             return Ok(());
         }
-        if level == self.level {
+        let place = lit.var().0 as usize;
+        if level_at(trail, lit) == self.level {
             self.marks[place] = true;
             self.unresolved += 1;
             return Ok(());
@@ -85,6 +80,15 @@ impl Walk {
         self.clause.push(alloc, lit)?;
         self.marks[place] = true;
         Ok(())
+    }
+
+    /// Whether a literal was noted before or is of level 0.
+    fn has_noted(&self, trail: &Trail, lit: Lit) -> bool
+        requires over { IsOver trail.now.vars lit }
+        requires sized { trail.now.vars < length self.now.marks.items }
+        ensures { IsTrue result ↔ IsNoted trail.now.steps self.now lit }
+    {
+        level_at(trail, lit) == 0 || self.marks[lit.var().0 as usize]
     }
 
     /// Passes the last open assignment and those behind it.
@@ -118,6 +122,43 @@ impl Walk {
         }
         Ok(step.lit.negated())
     }
+
+    /// The noted literals of lower levels and one literal more, and the table with no mark set. Nothing
+    /// may be open any more.
+    pub fn finish(
+        mut self,
+        alloc: Global,
+        trail: &Trail,
+        last: Lit,
+    ) -> Result<(Clause, Vec<bool>), NoMemory>
+        requires under_way { IsUnderWay trail.now self }
+        requires none { self.unresolved ≡ 0 }
+        ensures clause { IfOk result (λ done. done.0 ≡ self.clause ++ last ∷ []) }
+        ensures unmarked { IfOk result (λ done. HasNoMark done.1.items) }
+    {
+        self.clear_marks(trail);
+        self.clause.push(alloc, last)?;
+        Ok((self.clause, self.marks))
+    }
+
+    /// Takes all marks away: those that are left are of passed assignments or of the clause.
+    fn clear_marks(&mut self, trail: &Trail)
+        requires under_way { IsUnderWay trail.now self.old }
+        requires none { self.old.unresolved ≡ 0 }
+        ensures clause { self.new.clause ≡ self.old.clause }
+        ensures unmarked { HasNoMark self.new.marks.items }
+    {
+        unmark_steps(&trail.steps()[self.at..], &mut self.marks);
+        unmark_lits(self.clause.as_slice(), &mut self.marks);
+    }
+}
+
+/// The level at which the variable of a literal was assigned, or 0.
+pub fn level_at(trail: &Trail, lit: Lit) -> u32
+    requires { IsOver trail.now.vars lit }
+    ensures { result ≡ level_at trail.now.steps lit }
+{
+    trail.level_of(lit.var()).unwrap_or(0)
 }
 
 /// Whether an assignment is marked and of a level.

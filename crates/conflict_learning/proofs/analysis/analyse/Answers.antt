@@ -9,12 +9,12 @@ use Rattle.conflict_learning.proofs.analysis.analyse.Goals as goal
 
 pub note_all-requires-clause-notable : goal.note_all-requires-clause-notable
 note_all-requires-clause-notable c =
-    lemma.conflict_notable c.args.trail.now c.in_ok-walk.walk c.lits.result.now c.in_ok-walk.ensures
+    lemma.conflict_notable c.args.trail.now c.begin-walk.result c.lits.result.now c.begin-walk.ensures
     (lemma.conflict_false c.args.store.now c.args.trail.now.steps c.args.conflict c.lits.result.now c.requires.conflict c.lits.ensures.lits)
 
 pub resolve-requires-clause-some : goal.resolve-requires-clause-some
 resolve-requires-clause-some c =
-    lemma.some_open c.args.trail.now c.lits.result.now c.in_ok-walk.walk c.note_all.new.self c.in_ok-walk.ensures c.in_ok-note_all.ensures
+    lemma.some_open c.args.trail.now c.lits.result.now c.begin-walk.result c.note_all.new.self c.begin-walk.ensures c.in_ok-note_all.ensures
     (lemma.conflict_false c.args.store.now c.args.trail.now.steps c.args.conflict c.lits.result.now c.requires.conflict c.lits.ensures.lits)
     (lemma.conflict_present c.args.store.now c.args.trail.now.steps c.args.conflict c.lits.result.now c.requires.conflict c.lits.ensures.lits) c.requires.above
 
@@ -25,51 +25,51 @@ greatest_level-back-requires c =
 
 pub returns-clause-refuted : goal.returns-clause-refuted
 returns-clause-refuted c =
-    rw c.in_ok-learned.ensures
-    (lemma.learned_refuted c.args.store.now c.args.trail.now c.lits.result.now c.in_ok-walk.walk c.note_all.new.self c.resolve.new.self c.in_ok-asserting.asserting
+    rw c.in_ok-clause.ensures.clause
+    (lemma.learned_refuted c.args.store.now c.args.trail.now c.lits.result.now c.begin-walk.result c.note_all.new.self c.resolve.new.self c.in_ok-asserting.asserting
     (record {
       of = c.requires.of_store;
       here = here_at c.args.store.now c.args.conflict.0 c.lits.result.now c.lits.ensures.lits;
       wrong = lemma.conflict_false c.args.store.now c.args.trail.now.steps c.args.conflict c.lits.result.now c.requires.conflict c.lits.ensures.lits;
-      begins = c.in_ok-walk.ensures;
+      begins = c.begin-walk.ensures;
       notes = c.in_ok-note_all.ensures;
       resolves = c.in_ok-asserting.ensures;
     }))
 
 pub returns-clause-follows : goal.returns-clause-follows
-returns-clause-follows c = refuted_follows c.args.store.now c.in_ok-learned.field-0 (returns-clause-refuted c)
+returns-clause-follows c = refuted_follows c.args.store.now c.in_ok-clause.clause (returns-clause-refuted c)
 
 pub returns-clause-stands : goal.returns-clause-stands
 returns-clause-stands c =
-    rw c.in_ok-learned.ensures
-    (lemma.learned_stands c.args.store.now c.args.trail.now c.lits.result.now c.in_ok-walk.walk c.note_all.new.self c.resolve.new.self c.in_ok-asserting.asserting
+    rw c.in_ok-clause.ensures.clause
+    (lemma.learned_stands c.args.store.now c.args.trail.now c.lits.result.now c.begin-walk.result c.note_all.new.self c.resolve.new.self c.in_ok-asserting.asserting
     (record {
       of = c.requires.of_store;
       here = here_at c.args.store.now c.args.conflict.0 c.lits.result.now c.lits.ensures.lits;
       wrong = lemma.conflict_false c.args.store.now c.args.trail.now.steps c.args.conflict c.lits.result.now c.requires.conflict c.lits.ensures.lits;
-      begins = c.in_ok-walk.ensures;
+      begins = c.begin-walk.ensures;
       notes = c.in_ok-note_all.ensures;
       resolves = c.in_ok-asserting.ensures;
     }))
 
 pub returns-clause-is_false : goal.returns-clause-is_false
 returns-clause-is_false c =
-    rw c.in_ok-learned.ensures (lemma.learned_false c.args.store.now c.args.trail.now c.note_all.new.self c.resolve.new.self c.in_ok-asserting.asserting c.in_ok-asserting.ensures)
+    rw c.in_ok-clause.ensures.clause (lemma.learned_false c.args.store.now c.args.trail.now c.note_all.new.self c.resolve.new.self c.in_ok-asserting.asserting c.in_ok-asserting.ensures)
 
 pub returns-clause-once : goal.returns-clause-once
 returns-clause-once c =
-    rw c.in_ok-learned.ensures (lemma.learned_once c.args.store.now c.args.trail.now c.note_all.new.self c.resolve.new.self c.in_ok-asserting.asserting c.in_ok-asserting.ensures)
+    rw c.in_ok-clause.ensures.clause (lemma.learned_once c.args.store.now c.args.trail.now c.note_all.new.self c.resolve.new.self c.in_ok-asserting.asserting c.in_ok-asserting.ensures)
 
 pub returns-clause-over : goal.returns-clause-over
 returns-clause-over c =
-    rw c.in_ok-learned.ensures (lemma.learned_over c.args.store.now c.args.trail.now c.note_all.new.self c.resolve.new.self c.in_ok-asserting.asserting c.in_ok-asserting.ensures)
+    rw c.in_ok-clause.ensures.clause (lemma.learned_over c.args.store.now c.args.trail.now c.note_all.new.self c.resolve.new.self c.in_ok-asserting.asserting c.in_ok-asserting.ensures)
 
 pub returns-clause-asserting : goal.returns-clause-asserting
 returns-clause-asserting c =
-    rw c.in_ok-learned.ensures (lemma.learned_asserting c.args.store.now c.args.trail.now c.note_all.new.self c.resolve.new.self c.in_ok-asserting.asserting c.in_ok-asserting.ensures)
+    rw c.in_ok-clause.ensures.clause (lemma.learned_asserting c.args.store.now c.args.trail.now c.note_all.new.self c.resolve.new.self c.in_ok-asserting.asserting c.in_ok-asserting.ensures)
 
 pub returns-clause-back : goal.returns-clause-back
 returns-clause-back c =
-    rw c.in_ok-learned.ensures
+    rw c.in_ok-clause.ensures.clause
     (c.greatest_level-back.ensures ∙ ap (greatest_level c.args.trail.now.steps)
     (c.clause.ensures ∙ sym (lemma.learned_others c.args.store.now c.args.trail.now c.note_all.new.self c.resolve.new.self c.in_ok-asserting.asserting c.in_ok-asserting.ensures)))

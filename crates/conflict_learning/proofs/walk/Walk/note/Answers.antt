@@ -1,71 +1,38 @@
-use Rattle.std.proofs.Common.{◌≡◌, ◌∙◌, ℕ, List, Option, sym, ap, refl, arith}
-use Rattle.std.specs.Prelude.{unwrap_or}
-use Rattle.clause_store.specs.declared.literal.Lit.{Lit}
-use Rattle.clause_store.specs.declared.step.Step.{Step}
-use Rattle.clause_store.specs.Clause.{variable}
-use Rattle.clause_store.specs.Trail.{level_of}
-use Rattle.conflict_learning.specs.Analysis.{level_at}
-use Rattle.conflict_learning.proofs.AssignedLemmas.{false_later, false_over}
+use Rattle.std.proofs.Common.{◌∙◌, sym, refl, arith}
 use Rattle.conflict_learning.proofs.WalkLemmas as lemma
 use Rattle.conflict_learning.proofs.walk.Walk.note.Goals as goal
-use Rattle.conflict_learning.proofs.walk.Walk.note.Goals.{then-level-eq0-via-then-level-eq0, then-level-eq0-via-else-level-eq0+then-index}
 
-pub level_of-requires : goal.level_of-requires
-level_of-requires c =
-    let over = false_over c.args.trail.now c.args.lit c.requires.under_way.is_trail (false_later c.args.self.now.at c.args.trail.now.steps c.args.lit c.requires.is_false) in
-    omega (arith, over.last, c.var.ensures)
+pub has_noted-requires-clause-over : goal.has_noted-requires-clause-over
+has_noted-requires-clause-over c = lemma.note_over c.args.trail.now c.args.self.now c.args.lit c.requires.under_way c.requires.is_false
 
-pub index-requires : goal.index-requires
-index-requires c =
-    let over = false_over c.args.trail.now c.args.lit c.requires.under_way.is_trail (false_later c.args.self.now.at c.args.trail.now.steps c.args.lit c.requires.is_false) in
-    omega (arith, over.last, c.var-place.ensures, c.requires.under_way.sized)
+pub returns-then-has_noted : goal.returns-then-has_noted
+returns-then-has_noted c = lemma.notes_nothing c.args.trail.now c.args.self.now c.args.lit c.requires.under_way (c.if-has_noted.ensures.0 refl)
 
-level_is : (steps : List Step) (lit : Lit) (var : ℕ) (found : Option ℕ) (level : ℕ) → level ≡ unwrap_or found 0 → found ≡ level_of steps var → var ≡ variable lit → level ≡ level_at steps lit
-level_is steps lit var found level is by at = is ∙ ap (λ o. unwrap_or o 0) (by ∙ ap (level_of steps) at)
+pub level_at-requires : goal.level_at-requires
+level_at-requires c = lemma.note_over c.args.trail.now c.args.self.now c.args.lit c.requires.under_way c.requires.is_false
+
+pub index_mut-requires : goal.index_mut-requires
+index_mut-requires c = omega (arith, (lemma.note_over c.args.trail.now c.args.self.now c.args.lit c.requires.under_way c.requires.is_false).last, c.requires.under_way.sized, c.var-place.ensures)
 
 pub overflow_add-self : goal.overflow_add-self
 overflow_add-self c =
     omega (
       arith,
-      lemma.count_fits _ _ _ _ _ _ c.args.lit c.requires.under_way c.requires.is_false
-          (lemma.no_mark c.args.self.now.marks.items (variable c.args.lit) c.var-place.result.0 c.index.result.now c.var-place.ensures c.index.ensures c.if-index.false)
-          (sym (level_is c.args.trail.now.steps c.args.lit c.var.result.0 c.level_of.result c.unwrap_or-level.result c.unwrap_or-level.ensures c.level_of.ensures c.var.ensures) ∙ c.if-level-self.true),
+      lemma.count_fits _ _ _ _ _ _ c.args.lit c.requires.under_way c.requires.is_false (lemma.not_noted c.args.trail.now.steps c.args.self.now c.args.lit c.if-has_noted.ensures.1)
+          (sym c.level_at.ensures ∙ c.if-level_at-self.true),
     )
 
-pub index_mut-requires : goal.index_mut-requires
-index_mut-requires c =
-    let over = false_over c.args.trail.now c.args.lit c.requires.under_way.is_trail (false_later c.args.self.now.at c.args.trail.now.steps c.args.lit c.requires.is_false) in
-    omega (arith, over.last, c.var-place.ensures, c.requires.under_way.sized)
-
-pub index_mut-requires-2 : goal.index_mut-requires-2
-index_mut-requires-2 c =
-    let over = false_over c.args.trail.now c.args.lit c.requires.under_way.is_trail (false_later c.args.self.now.at c.args.trail.now.steps c.args.lit c.requires.is_false) in
-    omega (arith, over.last, c.var-place.ensures, c.requires.under_way.sized)
-
-pub returns-then-level-eq0 : goal.returns-then-level-eq0
-returns-then-level-eq0 c =
-    lemma.notes_nothing c.args.trail.now c.args.self.now c.args.lit c.requires.under_way
-    (elim c.then-level-eq0.branch [
-      | then-level-eq0-via-then-level-eq0 w ↦ λ above.
-          absurd (above (sym (level_is c.args.trail.now.steps c.args.lit c.var.result.0 c.level_of.result c.unwrap_or-level.result c.unwrap_or-level.ensures c.level_of.ensures c.var.ensures) ∙ w.if-level-eq0.true))
-      | then-level-eq0-via-else-level-eq0+then-index w ↦ λ above.
-          lemma.a_mark c.args.self.now.marks.items (variable c.args.lit) c.var-place.result.0 w.index.result.now c.var-place.ensures w.index.ensures w.if-index.true
-          (let over = false_over c.args.trail.now c.args.lit c.requires.under_way.is_trail (false_later c.args.self.now.at c.args.trail.now.steps c.args.lit c.requires.is_false) in
-          omega (arith, over.last, c.var-place.ensures, c.requires.under_way.sized))
-    ])
-
-pub returns-then-level-self : goal.returns-then-level-self
-returns-then-level-self c =
+pub returns-then-level_at-self : goal.returns-then-level_at-self
+returns-then-level_at-self c =
     rw c.var-place.ensures
     (lemma.notes_open c.args.trail.now c.args.self.now c.args.lit _ c.requires.under_way c.requires.is_false
-    (lemma.no_mark c.args.self.now.marks.items (variable c.args.lit) c.var-place.result.0 c.index.result.now c.var-place.ensures c.index.ensures c.if-index.false)
-    (sym (level_is c.args.trail.now.steps c.args.lit c.var.result.0 c.level_of.result c.unwrap_or-level.result c.unwrap_or-level.ensures c.level_of.ensures c.var.ensures) ∙ c.if-level-self.true)
-    refl refl refl refl refl)
+    (lemma.not_noted c.args.trail.now.steps c.args.self.now c.args.lit c.if-has_noted.ensures.1) (sym c.level_at.ensures ∙ c.if-level_at-self.true) refl refl refl refl refl)
+
+pub index_mut-requires-2 : goal.index_mut-requires-2
+index_mut-requires-2 c = omega (arith, (lemma.note_over c.args.trail.now c.args.self.now c.args.lit c.requires.under_way c.requires.is_false).last, c.requires.under_way.sized, c.var-place.ensures)
 
 pub returns : goal.returns
 returns c =
     rw c.var-place.ensures
     (lemma.notes_lower c.args.trail.now c.args.self.now c.args.lit _ c.requires.under_way c.requires.is_false
-    (lemma.no_mark c.args.self.now.marks.items (variable c.args.lit) c.var-place.result.0 c.index.result.now c.var-place.ensures c.index.ensures c.if-index.false)
-    (λ same. c.if-level-self.false (level_is c.args.trail.now.steps c.args.lit c.var.result.0 c.level_of.result c.unwrap_or-level.result c.unwrap_or-level.ensures c.level_of.ensures c.var.ensures ∙ same))
-    refl c.in_ok-push.ensures.ok refl refl refl)
+    (lemma.not_noted c.args.trail.now.steps c.args.self.now c.args.lit c.if-has_noted.ensures.1) (λ same. c.if-level_at-self.false (c.level_at.ensures ∙ same)) refl c.in_ok-push.ensures.ok refl refl refl)
