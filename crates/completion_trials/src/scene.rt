@@ -1,6 +1,6 @@
 // The way of a text up to propagation: read, normalised, completed, and with its clauses attached.
-ghost use Rattle.std.specs.Prelude.{◌≡◌, ◌↔◌, [], All, IfOk, IfSome, IsTrue};
-ghost use Rattle.clause_store.specs.Clause.{IsOver, AreOver};
+ghost use Rattle.std.specs.Prelude.{◌≡◌, [], IfOk, IfSome};
+ghost use Rattle.clause_store.specs.Clause.{AreOver};
 ghost use Rattle.rule_normaliser.specs.Limit.{IsNormal};
 ghost use Rattle.rule_normaliser.specs.Normal.{variables};
 ghost use Rattle.propagator.specs.Watched.{IsReady};
@@ -33,24 +33,20 @@ pub fn normal_of(alloc: Global, text: &[u8]) -> Option<Normal>
     }
 }
 
-/// The completed scene of a normal form, with nothing assigned. None is a clause with a variable
-/// that isn't the trail's.
-pub fn scene_of(alloc: Global, normal: &Normal) -> Result<Option<Scene>, NoMemory>
+/// The completed scene of a normal form, with nothing assigned.
+pub fn scene_of(alloc: Global, normal: &Normal) -> Result<Scene, NoMemory>
     requires { IsNormal normal.now }
-    ensures { IfOk result (λ made. IfSome made (λ it. IsReady it.store it.trail it.watches)) }
+    ensures { IfOk result (λ it. IsReady it.store it.trail it.watches) }
 {
     let mut store = Store::open();
     complete(alloc, normal, &mut store)?;
     let trail = Trail::open(alloc, variable_count(normal))?;
-    if !are_over(&trail, &store) {
-        return Ok(None);
-    }
     let watches = attach_all(alloc, &store, &trail)?;
-    Ok(Some(Scene {
+    Ok(Scene {
         store,
         trail,
         watches,
-    }))
+    })
 }
 
 /// The number of variables of a normal form.
@@ -59,25 +55,6 @@ fn variable_count(normal: &Normal) -> u32
     ensures { result ≡ variables normal.now }
 {
     normal.atoms + normal.bodies.len() as u32 + normal.names.len() as u32 + 1
-}
-
-/// Whether the variables of all clauses are the trail's.
-fn are_over(trail: &Trail, store: &Store) -> bool
-    ensures { IsTrue result ↔ AreOver trail.now.vars store.now }
-{
-    for at in 0..store.len() {
-        if !is_over(trail, store.lits(ClauseRef(at))) {
-            return false;
-        }
-    }
-    true
-}
-
-/// Whether the variables of a clause are the trail's.
-fn is_over(trail: &Trail, clause: &[Lit]) -> bool
-    ensures { IsTrue result ↔ All (IsOver trail.now.vars) clause.now }
-{
-    clause.iter().all(|lit| trail.has(*lit))
 }
 
 /// Attaches all clauses of a store, over a trail with nothing assigned.

@@ -55,9 +55,7 @@ fn is_shown(alloc: Global, case: &Case) -> Result<bool, NoMemory> {
     let Some(normal) = normal_of(alloc, case.text) else {
         return Ok(false);
     };
-    let Some(mut scene) = scene_of(alloc, &normal)? else {
-        return Ok(false);
-    };
+    let mut scene = scene_of(alloc, &normal)?;
     Ok(scene.settles() && scene.has_values(case.values))
 }
 
