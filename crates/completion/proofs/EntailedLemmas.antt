@@ -37,7 +37,7 @@ numbered_at xs item here =
     ap (slice_get xs) (sym number) ∙ slice_get-get_or xs here.0 item.1 within ∙ ap Some (ap (λ p. p.1) seen)
 
 -- numbers from the first on
-numbers_within : (first count number : ℕ) → Contains (numbers_from first count) number → (first ≤ number) × (number < first + count)
+pub numbers_within : (first count number : ℕ) → Contains (numbers_from first count) number → (first ≤ number) × (number < first + count)
 numbers_within first zero number here = absurd (omega (arith, here.1))
 numbers_within first (suc count) number here =
     ⊎_elim (λ same. (omega (arith, same), omega (arith, same)))

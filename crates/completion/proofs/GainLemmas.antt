@@ -2,12 +2,14 @@
 use Rattle.std.specs.List.{enumerate_from}
 use Rattle.std.proofs.lemmas.List.FromFn.{get_or-enumerate_from}
 use Rattle.rule_normaliser.specs.declared.normal.BodyOf.{BodyOf}
-use Rattle.std.proofs.Common.{flat_map, zero-add, Result, Ok, Err, OnErr, Bool, true, false, ◌≤◌, All, if◌then◌else◌, not, append-nil, ◌≡◌, ◌<◌, ◌+◌, ℕ, List, [], ◌∷◌, ◌++◌, length, get_or, map, filter, take, drop, take-append-drop, append_assoc, refl, sym, ap, subst, ◌∙◌, arith}
+use Rattle.std.proofs.Common.{flat_map, zero-add, Result, Ok, Err, OnOk, OnErr, Bool, true, false, ◌≤◌, All, if◌then◌else◌, not, append-nil, ◌≡◌, ◌<◌, ◌+◌, ℕ, List, [], ◌∷◌, ◌++◌, length, get_or, map, filter, take, drop, take-append-drop, append_assoc, refl, sym, ap, subst, ◌∙◌, arith}
 use Rattle.std.proofs.lemmas.List.{take_more, map-append}
 use Rattle.std.proofs.lemmas.List.Elements.{filter-append, All-cons, All-map}
 use Rattle.ground_program.specs.declared.program.AtomLit.{AtomLit}
 use Rattle.clause_store.specs.Clause.{variable, negation}
+use Rattle.clause_store.specs.Trail.{KeepsTrails}
 use Rattle.clause_store.proofs.LiteralLemmas.{variable-negation}
+use Rattle.clause_store.proofs.TrailLemmas.{slice_get-append}
 use Rattle.rule_normaliser.specs.declared.normal.Part.{Part}
 use Rattle.clause_store.specs.declared.literal.Lit.{Lit}
 use Rattle.rule_normaliser.specs.Clauses.{positive, negative, literal_of, literals_of, each_once, is_tautology, cleaned, base_clauses, body_clauses, numbered_bodies, rule_clauses, support_clause, atoms_of_normal, compute_clauses}
@@ -131,3 +133,15 @@ base_split normal =
     let three = map (support_clause normal) (atoms_of_normal normal) in
     cleaned-append (one ++ two ++ three) (compute_clauses normal)
     ∙ ap (λ l. l ++ cleaned (compute_clauses normal)) (cleaned-append (one ++ two) three ∙ ap (λ l. l ++ cleaned three) (cleaned-append one two))
+
+-- clauses that come last leave the trails of a store what they are
+trails_stay : (old more : List (List Lit)) → KeepsTrails old (old ++ more)
+trails_stay old more steps of at step why here forced =
+    let is = of at step why here forced in
+    record { clause = is.clause; named = slice_get-append old more why.0 is.clause is.named; here = is.here; others = is.others }
+
+-- so does a call that adds all of some clauses, or the first of them
+pub gain_keeps_trails : {T E : Type 0} (r : Result T E) (old new clauses : List (List Lit))
+    → OnOk r (Gains old new clauses) → OnErr r (GainsFirst old new clauses) → KeepsTrails old new
+gain_keeps_trails (Ok x) old new clauses gained none = subst (KeepsTrails old) (sym gained) (trails_stay old clauses)
+gain_keeps_trails (Err e) old new clauses none some = subst (KeepsTrails old) (sym some.gained) (trails_stay old some.done)

@@ -8,3 +8,4 @@ pub mod ModelLemmas
 pub mod AddLemmas
 pub mod GainLemmas
 pub mod RowLemmas
+pub mod OverLemmas

@@ -1,5 +1,8 @@
 // The completion of a normal form.
 ghost use Rattle.std.specs.Prelude.{◌≡◌, ◌++◌, map, flat_map, OnOk, OnErr};
+ghost use Rattle.clause_store.specs.Clause.{AreOver};
+ghost use Rattle.clause_store.specs.Trail.{KeepsTrails};
+ghost use Rattle.rule_normaliser.specs.Normal.{greatest_body_var};
 ghost use Rattle.rule_normaliser.specs.Clauses.{base_clauses, body_clauses, numbered_bodies, rule_clauses, support_clause, atoms_of_normal, compute_clauses, cleaned};
 ghost use Rattle.rule_normaliser.specs.Limit.{IsNormal};
 ghost use Rattle.rule_normaliser.specs.Range.{IsInRange};
@@ -18,6 +21,12 @@ pub fn complete(alloc: Global, normal: &Normal, store: &mut Store) -> Result<(),
     requires { IsNormal normal.now }
     ensures added { OnOk result (store.new ≡ store.old ++ base_clauses normal.now) }
     ensures some { OnErr result (GainsFirst store.old store.new (base_clauses normal.now)) }
+
+    // After want of memory too, each trail of the store stays one.
+    ensures trails { KeepsTrails store.old store.new }
+
+    // The variables of the base clauses are those of atoms and bodies.
+    ensures over { AreOver (greatest_body_var normal.now) (base_clauses normal.now) }
 
     // Each of them holds in every answer set. An assignment that meets them and the meaning of
     // the weight bodies is a model of all rules that meets the compute statement.

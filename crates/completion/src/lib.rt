@@ -9,7 +9,9 @@ mod ruling;
 mod supporting;
 
 pub use completing::complete;
-pub use laws::{base_clauses_are_entailed, base_clauses_make_models};
+pub use laws::{
+    base_clauses_are_entailed, base_clauses_are_over_atoms_and_bodies, base_clauses_make_models,
+};
 
 #[cfg(test)]
 mod tests;

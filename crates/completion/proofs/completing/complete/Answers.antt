@@ -1,10 +1,21 @@
 use Rattle.rule_normaliser.proofs.RangeLemmas.{IsNormal-in_range}
+use Rattle.rule_normaliser.specs.Clauses.{base_clauses}
+use Rattle.completion.proofs.GainLemmas.{gain_keeps_trails}
+use Rattle.completion.proofs.OverLemmas.{base_clauses-over}
 use Rattle.completion.proofs.EntailedLemmas.{base_clauses-entailed}
 use Rattle.completion.proofs.ModelLemmas.{base_clauses-make_models}
 use Rattle.completion.proofs.completing.complete.Goals as goal
 
 pub add_all-requires : goal.add_all-requires
 add_all-requires c = IsNormal-in_range c.args.normal.now c.requires
+
+pub returns-clause-over : goal.returns-clause-over
+returns-clause-over c = base_clauses-over c.args.normal.now c.requires
+
+pub returns-clause-trails : goal.returns-clause-trails
+returns-clause-trails c =
+    gain_keeps_trails c.add_all.result c.args.store.now c.add_all.new.store (base_clauses c.args.normal.now)
+    c.add_all.ensures.ok c.add_all.ensures.err
 
 pub returns-clause-entailed : goal.returns-clause-entailed
 returns-clause-entailed c = base_clauses-entailed c.args.normal.now c.requires
