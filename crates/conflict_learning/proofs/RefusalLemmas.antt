@@ -356,48 +356,6 @@ pub record IsExplaining (clauses : List (List Lit)) (steps : List Step) (last : 
   pub decided : (k : ℕ) (step : Step) → 1 ≤ k → k < at → slice_get steps (last + 1 - k) ≡ Some step → IsFilled core k → step.reason ≡ None
   pub gives : (known : List Lit) → IsClosed clauses known → HasFilled known core → HasFilled known start
 
-pub explaining_begins : (clauses : List (List Lit)) (steps : List Step) (last : ℕ) (core : List Lit) → AreCells steps last core → IsExplaining clauses steps last core core 1
-explaining_begins clauses steps last core cells =
-    record {
-      sized = refl;
-      cells = cells;
-      first = refl;
-      decided = λ k step one less. absurd (omega (arith, one, less));
-      gives = λ known closed has. has;
-    }
-
-pub explaining_more : (clauses : List (List Lit)) (steps : List Step) (last at : ℕ) (start old new : List Lit) → 1 ≤ at → IsExplaining clauses steps last start old at
-    → Explains clauses steps last at old new → IsExplaining clauses steps last start new (at + 1)
-explaining_more clauses steps last at start old new one so_far more =
-    record {
-      sized = more.sized ∙ so_far.sized;
-      cells = more.cells;
-      first = more.before 0 (omega arith) ∙ so_far.first;
-      decided = λ k step first less there filled.
-          elim (cases_lt k at) [
-            | inl before ↦ so_far.decided k step first before there (subst (λ lit. lit ≢ blank) (more.before k before) filled)
-            | inr after ↦
-                let same : k ≡ at = omega arith in
-                more.decided step (subst (λ n. slice_get steps (last + 1 - n) ≡ Some step) same there) (subst (IsFilled new) same filled)
-          ];
-      gives = λ known closed has. so_far.gives known closed (more.gives known closed has);
-    }
-
-pub explaining_ends : (clauses : List (List Lit)) (steps : List Step) (last at : ℕ) (start core : List Lit) → IsExplaining clauses steps last start core at → length start ≤ at
-    → ExplainsAll clauses steps last start core
-explaining_ends clauses steps last at start core so_far end =
-    record {
-      sized = so_far.sized;
-      cells = so_far.cells;
-      first = so_far.first;
-      decided = λ k step first there filled.
-          elim (cases_lt k at) [
-            | inl before ↦ so_far.decided k step first before there filled
-            | inr after ↦ absurd (filled (get_or_past core k blank (omega (arith, after, end, so_far.sized))))
-          ];
-      gives = so_far.gives;
-    }
-
 -- ---- blanks for the assignments above level 0
 
 -- a blank for each assignment from `last` back to one at `low`
