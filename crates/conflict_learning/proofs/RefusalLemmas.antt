@@ -1,217 +1,592 @@
--- Which decisions made a literal false.
-use Rattle.std.proofs.Common.{◌≡◌, ◌≢◌, ℕ, ◌+◌, ◌<◌, ◌≤◌, Bool, true, List, [], ◌∷◌, ◌++◌, length, set, take, get_or, Option, Some, None, refl, sym, ap, ◌∙◌, subst, inl, inr, arith, append_assoc}
-use Rattle.std.specs.Prelude.{All, Contains, slice_get, IsTrue, unwrap_or}
-use Rattle.std.proofs.lemmas.Bool.{cases_Bool, false≢true}
-use Rattle.std.proofs.lemmas.List.{length-set, length-take-le, append-nil}
+-- Which decisions made a literal false: cells with literals of assignments, and how they are explained.
+use Rattle.std.proofs.Common.{◌≡◌, ◌≢◌, ◌⊎◌, ℕ, zero, suc, ◌+◌, ◌-◌, ◌<◌, ◌≤◌, true, not, cond, List, [], ◌∷◌, ◌++◌, length, set, take, drop, replicate, get_or, Option, Some, None, refl, sym, ap, ◌∙◌, subst, inl, inr, arith, append_assoc, length-append, get_or-set_same, get_or-set_other}
+use Rattle.std.specs.Prelude.{All, Any, Contains, slice_get, filter}
+use Rattle.std.proofs.lemmas.Bool.{cases_eq, cases_lt, eq-eqb, ne_eqb, false≢true}
+use Rattle.std.proofs.lemmas.List.{length-set, set_past, length-take-le, length-replicate, take-append-drop, get_or-take, get_or_past, get_or-replicate, replicate_more}
 use Rattle.std.proofs.Math.Seq.{take-length}
-use Rattle.std.proofs.lemmas.List.Elements.{All-nil, All-head, All-tail, All-contains, All-contains_itself, All-push, Contains-append_left, Contains-push}
-use Rattle.std.proofs.lemmas.Option.{same_Some, slice_get_within}
+use Rattle.std.proofs.lemmas.List.Elements.{All-cons, All-nil, All-head, All-tail, All-contains, All-push, All-filter, All-contains_itself, Contains-push, Contains-append_left, filter_passes}
+use Rattle.std.proofs.lemmas.Option.{same_Some, slice_get_within, slice_get-get_or, get_or_from_slice_get}
 use Rattle.clause_store.specs.declared.literal.Lit.{Lit}
 use Rattle.clause_store.specs.declared.literal.ClauseRef.{ClauseRef}
 use Rattle.clause_store.specs.declared.step.Step.{Step}
-use Rattle.clause_store.specs.Clause.{variable, negation, IsTrueIn, HasAll}
-use Rattle.clause_store.specs.Entailment.{InClosure}
-use Rattle.clause_store.specs.Trail.{Assigned, IsTrail, IsTrailOf, IsReasonFor, level_of}
-use Rattle.clause_store.proofs.LiteralLemmas.{all_through, any_from, cases_lit}
+use Rattle.clause_store.specs.Clause.{variable, negation, IsTrueIn, IsOver, HasAll}
+use Rattle.clause_store.specs.Entailment.{InClosure, IsClosed}
+use Rattle.clause_store.specs.Trail.{Assigned, IsTrail, IsTrailOf, IsReasonFor, step_of, place_of, present_level, next_level}
+use Rattle.clause_store.proofs.LiteralLemmas.{any_from, any_through, cases_lit, has_kept, lit_of_code}
 use Rattle.clause_store.proofs.EntailmentLemmas.{closure_holds, not_both}
+use Rattle.clause_store.proofs.TrailLemmas.{slice_get-append}
+use Rattle.clause_store.proofs.PlaceLemmas.{place_holds, place_of_at, place_within, step_lacking}
 use Rattle.conflict_learning.specs.Analysis.{IsFalse, level_at}
-use Rattle.conflict_learning.specs.Marks.{IsMarked, has_mark}
-use Rattle.conflict_learning.specs.Walk.{IsKnowing, Gives}
-use Rattle.conflict_learning.specs.Refusal.{IsDecision, CannotMeet, AddsDecisions, IsFitting, Explains}
-use Rattle.conflict_learning.proofs.AssignedLemmas.{here_at, take_there, refuter, false_later, false_over, step_at, level_found}
-use Rattle.conflict_learning.proofs.MarkLemmas.{marked_new, marked_kept}
+use Rattle.conflict_learning.specs.Refusal.{IsDecision, CannotMeet, blank, is_blank, cell, IsFilled, HasFilled, AreCells, AddsDecisions, AddsBlanks, IsMarkable, Marks, IsMarkOf, IsMarkedIn, MarksAll, Explains, ExplainsAll}
+use Rattle.conflict_learning.proofs.AssignedLemmas.{blank as none, here_at, refuter, step_at, level_found, false_later, false_over, below_present}
 use Rattle.conflict_learning.proofs.GivenLemmas.{forced_known, ground_known}
 
--- ---- marks
+-- ---- blanks
 
--- marks stayed, and the variables of the literals are marked
-pub record IsMarking (old new : List Bool) (lits : List Lit) : Type 0 where
-  pub sized : length new ≡ length old
-  pub kept : (var : ℕ) → IsMarked old var → IsMarked new var
-  pub marked : All (λ lit. IsMarked new (variable lit)) lits
+-- a literal of a trail isn't blank
+pub over_filled : (vars : ℕ) (lit : Lit) → IsOver vars lit → lit ≢ blank
+over_filled vars lit over same =
+    let zero_code : lit.0 ≡ 0 = ap (λ l. l.0) same in
+    omega (arith, over.first, zero_code)
 
-pub marking_more : (old marks : List Bool) (lits : List Lit) (lit : Lit) → IsMarking old marks lits → variable lit < length old → IsMarking old (set marks (variable lit) true) (lits ++ lit ∷ [])
-marking_more old marks lits lit is within =
-    let inside : variable lit < length marks = omega (arith, is.sized, within) in
+step_filled : (trail : Assigned) (place : ℕ) (step : Step) → IsTrail trail → slice_get trail.steps place ≡ Some step → step.lit ≢ blank
+step_filled trail place step is there = over_filled trail.vars step.lit (step_at trail place step is there).over
+
+filled_passes : (lit : Lit) → lit ≢ blank → not (is_blank lit) ≡ true
+filled_passes lit filled = ap not (ne_eqb lit.0 0 (λ zero_code. filled (lit_of_code lit blank zero_code)))
+
+passes_filled : (lit : Lit) → not (is_blank lit) ≡ true → lit ≢ blank
+passes_filled lit passes same = false≢true (sym (ap not (eq-eqb lit.0 0 (ap (λ l. l.0) same))) ∙ passes)
+
+-- ---- places
+
+-- the assignment that makes a literal false, and its place
+pub record IsFalseAt (trail : Assigned) (n : ℕ) (lit : Lit) : Type 0 where
+  pub place : ℕ
+  pub step : Step
+  pub before : place < n
+  pub there : slice_get trail.steps place ≡ Some step
+  pub found : place_of trail.steps (variable lit) ≡ Some place
+  pub negates : step.lit ≡ negation lit
+
+pub false_at : (trail : Assigned) (n : ℕ) (lit : Lit) → IsTrail trail → n ≤ length trail.steps → IsFalse (take n trail.steps) lit → IsFalseAt trail n lit
+false_at trail n lit is within wrong =
+    let by = refuter (take n trail.steps) lit wrong in
+    let there : slice_get trail.steps by.here.0 ≡ Some by.step =
+    subst (λ steps. slice_get steps by.here.0 ≡ Some by.step) (take-append-drop n trail.steps)
+    (slice_get-append (take n trail.steps) (drop n trail.steps) by.here.0 by.step
+    (slice_get-get_or (take n trail.steps) by.here.0 by.step by.here.1 ∙ ap Some by.here.2)) in
     record {
-      sized = length-set marks (variable lit) true ∙ is.sized;
-      kept = λ var before. marked_kept marks (variable lit) var inside (is.kept var before);
-      marked = All-push (λ l. IsMarked (set marks (variable lit) true) (variable l)) lits lit
-          (λ k d within'. marked_kept marks (variable lit) (variable (get_or lits k d)) inside (is.marked k d within')) (marked_new marks (variable lit) inside);
+      place = by.here.0;
+      step = by.step;
+      before = omega (arith, by.here.1, length-take-le n trail.steps within);
+      there = there;
+      found = ap (place_of trail.steps) (sym by.same) ∙ place_of_at trail by.here.0 by.step is there;
+      negates = by.negates;
     }
 
--- ---- the walk
+pub false_anywhere : (trail : Assigned) (lit : Lit) → IsTrail trail → IsFalse trail.steps lit → IsFalseAt trail (length trail.steps) lit
+false_anywhere trail lit is wrong =
+    false_at trail (length trail.steps) lit is (omega arith) (subst (λ steps. IsFalse steps lit) (sym (take-length trail.steps)) wrong)
 
--- the decisions so far and the marked assignments before a place give the negation of the literal
-pub record IsExplained (clauses : List (List Lit)) (trail : Assigned) (refused : Lit) (start : List Lit) (marks : List Bool) (core : List Lit) (at : ℕ) : Type 0 where
-  pub sized : length marks ≡ trail.vars + 1
-  pub within : at ≤ length trail.steps
-  pub decisions : List Lit
-  pub is : core ≡ start ++ decisions
-  pub decided : All (IsDecision trail.steps) decisions
-  pub gives : Gives clauses decisions (has_mark marks) (take at trail.steps) (negation refused)
-
-pub explained_begins : (clauses : List (List Lit)) (trail : Assigned) (refused : Lit) (start : List Lit) (marks : List Bool) (at : ℕ) → IsTrail trail → IsFalse trail.steps refused
-    → length marks ≡ trail.vars + 1 → at ≡ length trail.steps → IsExplained clauses trail refused start (set marks (variable refused) true) start at
-explained_begins clauses trail refused start marks at is wrong sized end =
-    let over = false_over trail refused is wrong in
-    let inside : variable refused < length marks = omega (arith, over.last, sized) in
-    let by = refuter trail.steps refused wrong in
-    record {
-      sized = length-set marks (variable refused) true ∙ sized;
-      within = omega (arith, end);
-      decisions = [];
-      is = sym (append-nil start);
-      decided = All-nil (IsDecision trail.steps);
-      gives = λ known knowing.
-          subst (Contains known) by.negates
-          (All-contains (λ step. IsTrue (has_mark (set marks (variable refused) true) step) → Contains known step.lit) (take at trail.steps) by.step knowing.has_passing
-          (subst (λ steps. Contains steps by.step) (sym (ap (λ n. take n trail.steps) end ∙ take-length trail.steps)) by.here)
-          (subst (IsMarked (set marks (variable refused) true)) (sym by.same) (marked_new marks (variable refused) inside)));
-    }
-
--- one assignment less, which is known where it was marked
-less_gives : (clauses : List (List Lit)) (steps : List Step) (few many : List Lit) (old new : List Bool) (at : ℕ) (step : Step) (lit : Lit) → Gives clauses few (has_mark old) (take (at + 1) steps) lit
-    → slice_get steps at ≡ Some step → ((var : ℕ) → IsMarked old var → IsMarked new var) → HasAll many few
-    → ((known : List Lit) → IsKnowing clauses many (has_mark new) (take at steps) known → IsMarked old (variable step.lit) → Contains known step.lit)
-    → Gives clauses many (has_mark new) (take at steps) lit
-less_gives clauses steps few many old new at step lit gives there kept has last known knowing =
-    gives known (record {
-      closed = knowing.closed;
-      has_given = all_through (Contains known) few many has knowing.has_given;
-      has_passing =
-          subst (All (λ s. IsTrue (has_mark old s) → Contains known s.lit)) (sym (take_there steps at step there))
-          (All-push (λ s. IsTrue (has_mark old s) → Contains known s.lit) (take at steps) step
-          (λ k d inside marked. knowing.has_passing k d inside (kept (variable (get_or (take at steps) k d).lit) marked))
-          (last known knowing));
-    })
-
--- the forced literal of a reason whose variables are marked
-forced_by_marks : (clauses : List (List Lit)) (steps : List Step) (given : List Lit) (marks : List Bool) (at : ℕ) (lit : Lit) (why : ClauseRef) (known : List Lit) (reason : IsReasonFor clauses (take at steps) lit why)
-    → All (λ l. IsMarked marks (variable l)) reason.clause → IsKnowing clauses given (has_mark marks) (take at steps) known → Contains known lit
-forced_by_marks clauses steps given marks at lit why known reason marked knowing =
-    forced_known clauses known (take at steps) lit why reason knowing.closed
-    (λ k d inside other.
-    let by = refuter (take at steps) (get_or reason.clause k d) (reason.others k d inside other) in
-    subst (Contains known) by.negates
-    (All-contains (λ s. IsTrue (has_mark marks s) → Contains known s.lit) (take at steps) by.step knowing.has_passing by.here
-    (subst (IsMarked marks) (sym by.same) (marked k d inside))))
-
-pub explained_more : (clauses : List (List Lit)) (trail : Assigned) (refused : Lit) (start : List Lit) (old new : List Bool) (core more : List Lit) (at : ℕ) (step : Step)
-    → IsTrailOf trail.steps clauses → IsExplained clauses trail refused start old core (at + 1) → slice_get trail.steps at ≡ Some step → Explains clauses step old new core more
-    → IsExplained clauses trail refused start new more at
-explained_more clauses trail refused start old new core more at step of is there explains =
-    elim (cases_Bool (has_mark old step)) [
-      | inl marked ↦ go marked step.reason refl
-      | inr unmarked ↦ record {
-        sized = explains.sized ∙ is.sized;
-        within = omega (arith, is.within);
-        decisions = is.decisions;
-        is = explains.unmarked unmarked ∙ is.is;
-        decided = is.decided;
-        gives = less_gives clauses trail.steps is.decisions is.decisions old new at step (negation refused) is.gives there explains.kept (All-contains_itself is.decisions)
-            (λ known knowing marked. absurd (false≢true (sym unmarked ∙ marked)));
+-- the literals of a reason have variables of the trail that were assigned up to the forced one
+pub reason_markable : (clauses : List (List Lit)) (trail : Assigned) (last at : ℕ) (step : Step) (why : ClauseRef) (reason : IsReasonFor clauses (take at trail.steps) step.lit why)
+    → IsTrail trail → slice_get trail.steps at ≡ Some step → at ≤ last → All (IsMarkable trail last) reason.clause
+reason_markable clauses trail last at step why reason is there low k d inside =
+    elim (cases_lit (get_or reason.clause k d) step.lit) [
+      | inl same ↦ record {
+        over = subst (λ lit. variable lit ≤ trail.vars) (sym same) (step_at trail at step is there).over.last;
+        before = λ place found.
+            let e : at ≡ place = same_Some at place (sym (place_of_at trail at step is there) ∙ ap (λ lit. place_of trail.steps (variable lit)) (sym same) ∙ found) in
+            omega arith;
       }
+      | inr other ↦
+          let within : at < length trail.steps = slice_get_within trail.steps at step there in
+          let by = false_at trail at (get_or reason.clause k d) is (omega arith) (reason.others k d inside other) in
+          record {
+            over = (false_over trail (get_or reason.clause k d) is (false_later at trail.steps (get_or reason.clause k d) (reason.others k d inside other))).last;
+            before = λ place found.
+                let e : by.place ≡ place = same_Some by.place place (sym by.found ∙ found) in
+                let less : by.place < at = by.before in
+                omega arith;
+          }
     ]
-  where
-    go : IsMarked old (variable step.lit) → (reason : Option ClauseRef) → step.reason ≡ reason → IsExplained clauses trail refused start new more at
-    go marked None none =
-        record {
-          sized = explains.sized ∙ is.sized;
-          within = omega (arith, is.within);
-          decisions = is.decisions ++ step.lit ∷ [];
-          is = explains.decided marked none ∙ ap (λ lits. lits ++ step.lit ∷ []) is.is ∙ append_assoc start is.decisions (step.lit ∷ []);
-          decided = All-push (IsDecision trail.steps) is.decisions step.lit is.decided
-              (any_from (λ s. (s.lit ≡ step.lit) × (s.reason ≡ None)) trail.steps step (here_at trail.steps at step there) (refl, none));
-          gives = less_gives clauses trail.steps is.decisions (is.decisions ++ step.lit ∷ []) old new at step (negation refused) is.gives there explains.kept
-              (λ k d inside. Contains-append_left is.decisions (step.lit ∷ []) (get_or is.decisions k d) (All-contains_itself is.decisions k d inside))
-              (λ known knowing was. All-contains (Contains known) (is.decisions ++ step.lit ∷ []) step.lit knowing.has_given (Contains-push is.decisions step.lit));
-        }
-    go marked (Some why) some =
-        let reason = of at step why there some in
-        record {
-          sized = explains.sized ∙ is.sized;
-          within = omega (arith, is.within);
-          decisions = is.decisions;
-          is = explains.forced why some ∙ is.is;
-          decided = is.decided;
-          gives = less_gives clauses trail.steps is.decisions is.decisions old new at step (negation refused) is.gives there explains.kept (All-contains_itself is.decisions)
-              (λ known knowing was. forced_by_marks clauses trail.steps is.decisions new at step.lit why known reason (explains.marked why reason.clause was some reason.named) knowing);
-        }
 
-pub explained_ends : (clauses : List (List Lit)) (trail : Assigned) (refused : Lit) (start : List Lit) (marks : List Bool) (core : List Lit) → IsExplained clauses trail refused start marks core 0
-    → level_at trail.steps refused ≢ 0 → AddsDecisions clauses trail.steps refused start core
-explained_ends clauses trail refused start marks core is above =
+-- ---- marking
+
+-- the literal of an assignment was put into its cell
+pub marks_set : (steps : List Step) (last place : ℕ) (lit : Lit) (step : Step) (old new : List Lit) → place_of steps (variable lit) ≡ Some place → slice_get steps place ≡ Some step
+    → new ≡ set old (last + 1 - place) step.lit → Marks steps last lit old new
+marks_set steps last place lit step old new found there is =
     record {
-      decisions = is.decisions;
-      is = is.is;
-      decided = is.decided;
-      gives = λ known has closed.
-          is.gives known (record {
-            closed = closed;
-            has_given = has;
-            has_passing = λ k d inside. absurd (omega (arith, inside, length-take-le 0 trail.steps is.within));
-          });
-      alone = λ level. absurd (above level);
+      unset = λ none. absurd (cc);
+      assigned = λ place' step' found' there'.
+          let same_place : place ≡ place' = same_Some place place' (sym found ∙ found') in
+          let same_step : step ≡ step' = same_Some step step' (sym there ∙ ap (slice_get steps) same_place ∙ there') in
+          is ∙ ap (λ n. set old (last + 1 - n) step.lit) same_place ∙ ap (λ s. set old (last + 1 - place') s.lit) same_step;
     }
 
--- the variables of an assignment and of its reason have marks
-pub fitting_at : (clauses : List (List Lit)) (trail : Assigned) (count at : ℕ) (step : Step) → IsTrail trail → IsTrailOf trail.steps clauses → count ≡ trail.vars + 1 → slice_get trail.steps at ≡ Some step
-    → IsFitting clauses count step
-fitting_at clauses trail count at step is of size there =
-    let here = step_at trail at step is there in
+pub marks_none : (steps : List Step) (last : ℕ) (core : List Lit) → MarksAll steps last [] core core
+marks_none steps last core =
     record {
-      own = omega (arith, here.over.last, size);
-      named = λ why some. let reason = of at step why there some in slice_get_within clauses why.0 reason.clause reason.named;
-      others = λ why clause some named.
-          let reason = of at step why there some in
-          subst (All (λ lit. variable lit < count)) (same_Some reason.clause clause (sym reason.named ∙ named))
-          (λ k d inside.
-          elim (cases_lit (get_or reason.clause k d) step.lit) [
-            | inl same ↦ subst (λ lit. variable lit < count) (sym same) (omega (arith, here.over.last, size))
+      sized = refl;
+      stays = λ at. inl refl;
+      marked = All-nil (IsMarkedIn steps last (length core) core);
+    }
+
+-- a cell that stays as it was
+stays_with : (steps : List Step) (last at : ℕ) (lits : List Lit) (lit : Lit) (start old new : List Lit) → cell new at ≡ cell old at
+    → (cell old at ≡ cell start at) ⊎ Any (IsMarkOf steps last old at) lits → (cell new at ≡ cell start at) ⊎ Any (IsMarkOf steps last new at) (lits ++ lit ∷ [])
+stays_with steps last at lits lit start old new same either =
+    elim either [
+      | inl before ↦ inl (same ∙ before)
+      | inr some ↦ inr (any_through (IsMarkOf steps last old at) (IsMarkOf steps last new at) lits (lits ++ lit ∷ [])
+          (λ k d inside. Contains-append_left lits (lit ∷ []) (get_or lits k d) (All-contains_itself lits k d inside))
+          (λ l is. record { place = is.place; step = is.step; found = is.found; there = is.there; at_is = is.at_is; holds = same ∙ is.holds }) some)
+    ]
+
+-- one that was marked stays so
+marked_with : (steps : List Step) (last place : ℕ) (step : Step) (sized : ℕ) (old : List Lit) (lit : Lit) → place ≤ last → slice_get steps place ≡ Some step → sized ≡ length old
+    → IsMarkedIn steps last sized old lit → IsMarkedIn steps last sized (set old (last + 1 - place) step.lit) lit
+marked_with steps last place step sized old lit low there is_size marked place' step' found' there' within =
+    elim (cases_eq (last + 1 - place') (last + 1 - place)) [
+      | inl same ↦
+          let same_place : place' ≡ place = omega (arith, same, low) in
+          let same_step : step ≡ step' = same_Some step step' (sym there ∙ ap (slice_get steps) (sym same_place) ∙ there') in
+          let inside : last + 1 - place < length old = omega (arith, same_place, within, is_size, low) in
+          ap (cell (set old (last + 1 - place) step.lit)) same ∙ get_or-set_same old (last + 1 - place) step.lit blank inside ∙ ap (λ s. s.lit) same_step
+      | inr other ↦ get_or-set_other old (last + 1 - place) (last + 1 - place') step.lit blank other ∙ marked place' step' found' there' within
+    ]
+
+marks_at : (trail : Assigned) (last place : ℕ) (step : Step) (lits : List Lit) (lit : Lit) (start old : List Lit) → place ≤ last → place_of trail.steps (variable lit) ≡ Some place
+    → slice_get trail.steps place ≡ Some step → MarksAll trail.steps last lits start old → MarksAll trail.steps last (lits ++ lit ∷ []) start (set old (last + 1 - place) step.lit)
+marks_at trail last place step lits lit start old low found there all =
+    record {
+      sized = length-set old (last + 1 - place) step.lit ∙ all.sized;
+      stays = λ at.
+          elim (cases_eq at (last + 1 - place)) [
+            | inl same ↦ elim (cases_lt (last + 1 - place) (length old)) [
+              | inl inside ↦
+                  inr (any_from (IsMarkOf trail.steps last (set old (last + 1 - place) step.lit) at) (lits ++ lit ∷ []) lit (Contains-push lits lit)
+                  (record {
+                    place = place;
+                    step = step;
+                    found = found;
+                    there = there;
+                    at_is = same;
+                    holds = ap (cell (set old (last + 1 - place) step.lit)) same ∙ get_or-set_same old (last + 1 - place) step.lit blank inside;
+                  }))
+              | inr outside ↦
+                  stays_with trail.steps last at lits lit start old (set old (last + 1 - place) step.lit)
+                  (ap (λ xs. cell xs at) (set_past old (last + 1 - place) step.lit outside)) (all.stays at)
+            ]
             | inr other ↦
-                let over = false_over trail (get_or reason.clause k d) is (false_later at trail.steps (get_or reason.clause k d) (reason.others k d inside other)) in
-                omega (arith, over.last, size)
-          ]);
+                stays_with trail.steps last at lits lit start old (set old (last + 1 - place) step.lit)
+                (get_or-set_other old (last + 1 - place) at step.lit blank other) (all.stays at)
+          ];
+      marked = All-push (IsMarkedIn trail.steps last (length start) (set old (last + 1 - place) step.lit)) lits lit
+          (λ k d inside. marked_with trail.steps last place step (length start) old (get_or lits k d) low there (sym all.sized) (all.marked k d inside))
+          (λ place' step' found' there' within.
+          let same_place : place ≡ place' = same_Some place place' (sym found ∙ found') in
+          let same_step : step ≡ step' = same_Some step step' (sym there ∙ ap (slice_get trail.steps) same_place ∙ there') in
+          let inside : last + 1 - place < length old = omega (arith, same_place, within, all.sized, low) in
+          ap (λ n. cell (set old (last + 1 - place) step.lit) (last + 1 - n)) (sym same_place)
+          ∙ get_or-set_same old (last + 1 - place) step.lit blank inside ∙ ap (λ s. s.lit) same_step);
     }
+
+-- one literal more
+pub marks_more : (trail : Assigned) (last : ℕ) (lits : List Lit) (lit : Lit) (start old new : List Lit) → IsMarkable trail last lit → MarksAll trail.steps last lits start old
+    → Marks trail.steps last lit old new → MarksAll trail.steps last (lits ++ lit ∷ []) start new
+marks_more trail last lits lit start old new markable all marks = go (place_of trail.steps (variable lit)) refl
+  where
+    go : (found : Option ℕ) → place_of trail.steps (variable lit) ≡ found → MarksAll trail.steps last (lits ++ lit ∷ []) start new
+    go None none =
+        subst (MarksAll trail.steps last (lits ++ lit ∷ []) start) (sym (marks.unset none))
+        (record {
+          sized = all.sized;
+          stays = λ at. stays_with trail.steps last at lits lit start old old refl (all.stays at);
+          marked = All-push (IsMarkedIn trail.steps last (length start) old) lits lit all.marked (λ place step found there within. absurd (cc));
+        })
+    go (Some place) found =
+        let at = place_holds trail.steps (variable lit) place found in
+        subst (MarksAll trail.steps last (lits ++ lit ∷ []) start) (sym (marks.assigned place at.0 found at.1))
+        (marks_at trail last place at.0 lits lit start old (markable.before place found) found at.1 all)
+
+-- the cells stay right
+pub cells_marked : (trail : Assigned) (last : ℕ) (lits old new : List Lit) → AreCells trail.steps last old → All (IsMarkable trail last) lits → MarksAll trail.steps last lits old new
+    → AreCells trail.steps last new
+cells_marked trail last lits old new cells markable marks =
+    record {
+      some = omega (arith, cells.some, marks.sized);
+      fits = omega (arith, cells.fits, marks.sized);
+      holds = λ at step first there filled.
+          elim (marks.stays at) [
+            | inl same ↦ same ∙ cells.holds at step first there (subst (λ lit. lit ≢ blank) same filled)
+            | inr some ↦
+                let mark = some.4 in
+                let low : mark.place ≤ last = (All-contains (IsMarkable trail last) lits some.1 markable (some.0, some.2, some.3)).before mark.place mark.found in
+                let back : last + 1 - at ≡ mark.place = omega (arith, mark.at_is, low) in
+                mark.holds ∙ ap (λ s. s.lit) (same_Some mark.step step (sym mark.there ∙ ap (slice_get trail.steps) (sym back) ∙ there))
+          ];
+      ground = λ place step past there. cells.ground place step (omega (arith, past, marks.sized)) there;
+    }
+
+-- ---- explaining
+
+-- a closed list has the literals of level 0
+ground_step : (clauses : List (List Lit)) (trail : Assigned) (known : List Lit) (place : ℕ) (step : Step) → IsTrail trail → IsTrailOf trail.steps clauses → IsClosed clauses known
+    → slice_get trail.steps place ≡ Some step → step.level ≡ 0 → Contains known step.lit
+ground_step clauses trail known place step is of closed there level =
+    All-contains (λ s. s.level ≡ 0 → Contains known s.lit) trail.steps step
+    (subst (All (λ s. s.level ≡ 0 → Contains known s.lit)) (take-length trail.steps) (ground_known clauses trail known is of closed (length trail.steps) (omega arith)))
+    (here_at trail.steps place step there) level
+
+-- a decision is left
+pub explains_none : (clauses : List (List Lit)) (steps : List Step) (last at : ℕ) (step : Step) (core : List Lit) → AreCells steps last core → slice_get steps (last + 1 - at) ≡ Some step
+    → step.reason ≡ None → Explains clauses steps last at core core
+explains_none clauses steps last at step core cells there none =
+    record {
+      sized = refl;
+      cells = cells;
+      before = λ earlier less. refl;
+      decided = λ other there' filled. ap (λ s. s.reason) (same_Some other step (sym there' ∙ there)) ∙ none;
+      gives = λ known closed has. has;
+    }
+
+-- a blank may come
+cells_blanked : (steps : List Step) (last at : ℕ) (core : List Lit) → at < length core → AreCells steps last core → AreCells steps last (set core at blank)
+cells_blanked steps last at core inside cells =
+    record {
+      some = omega (arith, cells.some, length-set core at blank);
+      fits = omega (arith, cells.fits, length-set core at blank);
+      holds = λ k step first there filled.
+          elim (cases_eq k at) [
+            | inl same ↦ absurd (filled (ap (cell (set core at blank)) same ∙ get_or-set_same core at blank blank inside))
+            | inr other ↦
+                let stays : cell (set core at blank) k ≡ cell core k = get_or-set_other core at k blank blank other in
+                stays ∙ cells.holds k step first there (subst (λ lit. lit ≢ blank) stays filled)
+          ];
+      ground = λ place step past there. cells.ground place step (omega (arith, past, length-set core at blank)) there;
+    }
+
+-- a cell with a literal keeps it
+filled_stays : (trail : Assigned) (last : ℕ) (lits old new : List Lit) (at : ℕ) → AreCells trail.steps last old → All (IsMarkable trail last) lits → MarksAll trail.steps last lits old new
+    → 1 ≤ at → IsFilled old at → cell new at ≡ cell old at
+filled_stays trail last lits old new at cells markable marks first filled =
+    elim (marks.stays at) [
+      | inl same ↦ same
+      | inr some ↦
+          let mark = some.4 in
+          let low : mark.place ≤ last = (All-contains (IsMarkable trail last) lits some.1 markable (some.0, some.2, some.3)).before mark.place mark.found in
+          let back : last + 1 - at ≡ mark.place = omega (arith, mark.at_is, low) in
+          mark.holds ∙ sym (cells.holds at mark.step first (ap (slice_get trail.steps) back ∙ mark.there) filled)
+    ]
+
+-- the cells of later assignments are left
+later_stays : (trail : Assigned) (last at : ℕ) (lits old new : List Lit) (k : ℕ) → at ≤ last + 1 → All (IsMarkable trail (last + 1 - at)) lits → MarksAll trail.steps last lits old new
+    → k < at → cell new k ≡ cell old k
+later_stays trail last at lits old new k low markable marks before =
+    elim (marks.stays k) [
+      | inl same ↦ same
+      | inr some ↦
+          let mark = some.4 in
+          let early : mark.place ≤ last + 1 - at = (All-contains (IsMarkable trail (last + 1 - at)) lits some.1 markable (some.0, some.2, some.3)).before mark.place mark.found in
+          absurd (omega (arith, mark.at_is, early, before, low))
+    ]
+
+-- the negation of a literal of the reason is known where its cell is, and at level 0
+false_known : (clauses : List (List Lit)) (trail : Assigned) (last at : ℕ) (lits old mid known : List Lit) (lit : Lit) → IsTrail trail → IsTrailOf trail.steps clauses → IsClosed clauses known
+    → AreCells trail.steps last old → MarksAll trail.steps last lits old mid → Contains lits lit → at ≤ last + 1 → at < length mid → IsFalseAt trail (last + 1 - at) lit
+    → HasFilled known (set mid at blank) → Contains known (negation lit)
+false_known clauses trail last at lits old mid known lit is of closed cells marks here low inside by has =
+    subst (Contains known) by.negates (elim (cases_lt (last + 1) (by.place + length old)) [
+      | inl within ↦
+          let other : last + 1 - by.place ≢ at = λ same. omega (arith, same, by.before, low) in
+          let first : 1 ≤ last + 1 - by.place = omega (arith, by.before, low) in
+          let holds : cell (set mid at blank) (last + 1 - by.place) ≡ by.step.lit =
+          get_or-set_other mid at (last + 1 - by.place) blank blank other
+          ∙ All-contains (IsMarkedIn trail.steps last (length old) mid) lits lit marks.marked here by.place by.step by.found by.there within in
+          subst (Contains known) holds
+          (has (last + 1 - by.place) first (subst (λ l. l ≢ blank) (sym holds) (step_filled trail by.place by.step is by.there)))
+      | inr past ↦ ground_step clauses trail known by.place by.step is of closed by.there (cells.ground by.place by.step past by.there)
+    ])
+
+-- the literal of a cell gives way to its reason
+explains_by : (clauses : List (List Lit)) (trail : Assigned) (last at : ℕ) (step : Step) (why : ClauseRef) (old mid : List Lit) (reason : IsReasonFor clauses (take (last + 1 - at) trail.steps) step.lit why)
+    → IsTrail trail → IsTrailOf trail.steps clauses → AreCells trail.steps last old → 1 ≤ at → at < length old → slice_get trail.steps (last + 1 - at) ≡ Some step
+    → MarksAll trail.steps last reason.clause old mid → Explains clauses trail.steps last at old (set mid at blank)
+explains_by clauses trail last at step why old mid reason is of cells first inside there marks =
+    let low : at ≤ last + 1 = omega (arith, inside, cells.fits) in
+    let below : last + 1 - at < length trail.steps = slice_get_within trail.steps (last + 1 - at) step there in
+    let within : at < length mid = omega (arith, inside, marks.sized) in
+    let markable = reason_markable clauses trail last (last + 1 - at) step why reason is there (omega arith) in
+    let early = reason_markable clauses trail (last + 1 - at) (last + 1 - at) step why reason is there (omega arith) in
+    let blanked : cell (set mid at blank) at ≡ blank = get_or-set_same mid at blank blank within in
+    record {
+      sized = length-set mid at blank ∙ marks.sized;
+      cells = cells_blanked trail.steps last at mid within (cells_marked trail last reason.clause old mid cells markable marks);
+      before = λ k less.
+          let other : k ≢ at = omega arith in
+          get_or-set_other mid at k blank blank other ∙ later_stays trail last at reason.clause old mid k low early marks less;
+      decided = λ found there' filled. absurd (filled blanked);
+      gives = λ known closed has k one filled.
+          elim (cases_eq k at) [
+            | inl same ↦
+                subst (Contains known) (sym (ap (cell old) same ∙ cells.holds at step first there (subst (IsFilled old) same filled)))
+                (forced_known clauses known (take (last + 1 - at) trail.steps) step.lit why reason closed
+                (λ i d here other.
+                false_known clauses trail last at reason.clause old mid known (get_or reason.clause i d) is of closed cells marks (All-contains_itself reason.clause i d here) low within
+                (false_at trail (last + 1 - at) (get_or reason.clause i d) is (omega arith) (reason.others i d here other)) has))
+            | inr other ↦
+                let stays : cell (set mid at blank) k ≡ cell old k =
+                get_or-set_other mid at k blank blank other ∙ filled_stays trail last reason.clause old mid k cells markable marks one filled in
+                subst (Contains known) stays (has k one (subst (λ l. l ≢ blank) (sym stays) filled))
+          ];
+    }
+
+pub explains_reason : (clauses : List (List Lit)) (trail : Assigned) (last at : ℕ) (step : Step) (why : ClauseRef) (lits old mid : List Lit) → IsTrail trail → IsTrailOf trail.steps clauses
+    → AreCells trail.steps last old → 1 ≤ at → at < length old → slice_get trail.steps (last + 1 - at) ≡ Some step → step.reason ≡ Some why → slice_get clauses why.0 ≡ Some lits
+    → MarksAll trail.steps last lits old mid → Explains clauses trail.steps last at old (set mid at blank)
+explains_reason clauses trail last at step why lits old mid is of cells first inside there some named marks =
+    let reason = of (last + 1 - at) step why there some in
+    explains_by clauses trail last at step why old mid reason is of cells first inside there
+    (subst (λ clause. MarksAll trail.steps last clause old mid) (same_Some lits reason.clause (sym named ∙ reason.named)) marks)
+
+-- what marking the reason requires
+pub reason_named : (clauses : List (List Lit)) (steps : List Step) (at : ℕ) (step : Step) (why : ClauseRef) → IsTrailOf steps clauses → slice_get steps at ≡ Some step → step.reason ≡ Some why
+    → why.0 < length clauses
+reason_named clauses steps at step why of there some =
+    let reason = of at step why there some in
+    slice_get_within clauses why.0 reason.clause reason.named
+
+pub lits_markable : (clauses : List (List Lit)) (trail : Assigned) (last at : ℕ) (step : Step) (why : ClauseRef) (lits : List Lit) → IsTrail trail → IsTrailOf trail.steps clauses → 1 ≤ at
+    → slice_get trail.steps (last + 1 - at) ≡ Some step → step.reason ≡ Some why → slice_get clauses why.0 ≡ Some lits → All (IsMarkable trail last) lits
+lits_markable clauses trail last at step why lits is of first there some named =
+    let reason = of (last + 1 - at) step why there some in
+    subst (All (IsMarkable trail last)) (same_Some reason.clause lits (sym reason.named ∙ named))
+    (reason_markable clauses trail last (last + 1 - at) step why reason is there (omega arith))
+
+-- ---- explaining all
+
+-- the cells before `at` are blank or decisions, and all cells give those of the start
+pub record IsExplaining (clauses : List (List Lit)) (steps : List Step) (last : ℕ) (start core : List Lit) (at : ℕ) : Type 0 where
+  pub sized : length core ≡ length start
+  pub cells : AreCells steps last core
+  pub first : cell core 0 ≡ cell start 0
+  pub decided : (k : ℕ) (step : Step) → 1 ≤ k → k < at → slice_get steps (last + 1 - k) ≡ Some step → IsFilled core k → step.reason ≡ None
+  pub gives : (known : List Lit) → IsClosed clauses known → HasFilled known core → HasFilled known start
+
+-- ---- blanks for the assignments above level 0
+
+-- a blank for each assignment from `last` back to one at `low`
+pub record IsBlanking (steps : List Step) (last : ℕ) (start core : List Lit) (low : ℕ) : Type 0 where
+  pub order : low ≤ last + 1
+  pub is : core ≡ start ++ replicate (last + 1 - low) blank
+  pub above : (step : Step) → slice_get steps last ≡ Some step → step.level ≡ 0 → low ≡ last + 1
+
+pub blanking_more : (steps : List Step) (last : ℕ) (start core : List Lit) (low : ℕ) (step : Step) → IsBlanking steps last start core low → 0 < low → slice_get steps (low - 1) ≡ Some step
+    → 0 < step.level → IsBlanking steps last start (core ++ blank ∷ []) (low - 1)
+blanking_more steps last start core low step so_far some there above =
+    let one_more : last + 1 - low + 1 ≡ last + 1 - (low - 1) = omega (arith, some, so_far.order) in
+    record {
+      order = omega (arith, so_far.order);
+      is = ap (λ xs. xs ++ blank ∷ []) so_far.is ∙ append_assoc start (replicate (last + 1 - low) blank) (blank ∷ [])
+          ∙ ap (λ xs. start ++ xs) (replicate_more (last + 1 - low) blank ∙ ap (λ n. replicate n blank) one_more);
+      above = λ other there' zero_level.
+          let end : low ≡ last + 1 = so_far.above other there' zero_level in
+          let last_one : low - 1 ≡ last = omega arith in
+          let same : step ≡ other = same_Some step other (sym there ∙ ap (slice_get steps) last_one ∙ there') in
+          absurd (omega (arith, above, zero_level, ap (λ s. s.level) same));
+    }
+
+next_ground : (level : ℕ) (reason : Option ClauseRef) → next_level level reason ≡ 0 → level ≡ 0
+next_ground level None is = absurd (omega (arith, is))
+next_ground level (Some why) is = is
+
+-- what is before an assignment of level 0 is of level 0
+ground_before : (trail : Assigned) (at place : ℕ) (step other : Step) → IsTrail trail → slice_get trail.steps at ≡ Some step → step.level ≡ 0 → place ≤ at
+    → slice_get trail.steps place ≡ Some other → other.level ≡ 0
+ground_before trail at place step other is there level low there' =
+    elim (cases_lt place at) [
+      | inl before ↦
+          let within : at < length trail.steps = slice_get_within trail.steps at step there in
+          let inside : place < length (take at trail.steps) = omega (arith, before, within, length-take-le at trail.steps (omega arith)) in
+          let below : other.level ≤ present_level (take at trail.steps) =
+          All-contains (λ s. s.level ≤ present_level (take at trail.steps)) (take at trail.steps) other (below_present (take at trail.steps))
+          (place, inside, get_or-take at trail.steps place other before ∙ get_or_from_slice_get trail.steps place other other there') in
+          let ground : present_level (take at trail.steps) ≡ 0 = next_ground (present_level (take at trail.steps)) step.reason (sym (step_at trail at step is there).level ∙ level) in
+          omega arith
+      | inr after ↦
+          let same_place : place ≡ at = omega arith in
+          let same : other ≡ step = same_Some other step (sym there' ∙ ap (slice_get trail.steps) same_place ∙ there) in
+          ap (λ s. s.level) same ∙ level
+    ]
+
+pub blanking_ends : (trail : Assigned) (last : ℕ) (start core : List Lit) (low : ℕ) (step : Step) → IsTrail trail → IsBlanking trail.steps last start core low → 0 < low
+    → slice_get trail.steps (low - 1) ≡ Some step → step.level ≡ 0 → AddsBlanks trail last start core
+blanking_ends trail last start core low step is so_far some there level =
+    record {
+      is_trail = is;
+      low = low;
+      order = so_far.order;
+      is = so_far.is;
+      ground = λ place other before. ground_before trail (low - 1) place step other is there level (omega arith);
+      above = so_far.above;
+    }
+
+-- an assignment that was read
+pub read_there : (all steps : List Step) (at : ℕ) → all ≡ steps → at < length steps → slice_get steps at ≡ Some (get_or all at none)
+read_there all steps at same inside = slice_get-get_or steps at none inside ∙ ap (λ s. Some (get_or s at none)) (sym same)
+
+-- ---- from the blanks to the decisions
+
+no_cell : (count at : ℕ) → get_or (replicate count blank) at blank ≡ blank
+no_cell count at =
+    elim (cases_lt at count) [
+      | inl inside ↦ get_or-replicate count at blank blank inside
+      | inr past ↦ get_or_past (replicate count blank) at blank (omega (arith, past, length-replicate count blank))
+    ]
+
+-- behind the refused literal there are blanks alone
+only_first : (refused : Lit) (count at : ℕ) → 1 ≤ at → cell (refused ∷ replicate count blank) at ≡ blank
+only_first refused count zero first = absurd (omega (arith, first))
+only_first refused count (suc at) first = no_cell count at
+
+blanks_count : (trail : Assigned) (last : ℕ) (refused : Lit) (core : List Lit) (adds : AddsBlanks trail last (refused ∷ []) core) → length core ≡ 1 + (last + 1 - adds.low)
+blanks_count trail last refused core adds =
+    let count : length core ≡ length ((refused ∷ []) ++ replicate (last + 1 - adds.low) blank) = ap length adds.is in
+    omega (arith, count, length-append (refused ∷ []) (replicate (last + 1 - adds.low) blank), length-replicate (last + 1 - adds.low) blank)
+
+cells_begin : (trail : Assigned) (last : ℕ) (refused : Lit) (core : List Lit) → AddsBlanks trail last (refused ∷ []) core → AreCells trail.steps last core
+cells_begin trail last refused core adds =
+    let count : length core ≡ 1 + (last + 1 - adds.low) = blanks_count trail last refused core adds in
+    record {
+      some = omega (arith, count);
+      fits = omega (arith, count);
+      holds = λ at step first there filled. absurd (filled (ap (λ xs. cell xs at) adds.is ∙ only_first refused (last + 1 - adds.low) at first));
+      ground = λ place step past there. adds.ground place step (omega (arith, past, count, adds.order)) there;
+    }
+
+-- the refused literal itself can be marked
+refused_markable : (trail : Assigned) (last : ℕ) (refused : Lit) → IsOver trail.vars refused → place_of trail.steps (variable refused) ≡ Some last → IsMarkable trail last refused
+refused_markable trail last refused over at =
+    record {
+      over = over.last;
+      before = λ place found. let same : last ≡ place = same_Some last place (sym at ∙ found) in omega arith;
+    }
+
+refused_marked : (trail : Assigned) (last : ℕ) (refused : Lit) (blanks marked : List Lit) → IsOver trail.vars refused → place_of trail.steps (variable refused) ≡ Some last
+    → Marks trail.steps last refused blanks marked → MarksAll trail.steps last (refused ∷ []) blanks marked
+refused_marked trail last refused blanks marked over at marks =
+    marks_more trail last [] refused blanks blanks marked (refused_markable trail last refused over at) (marks_none trail.steps last blanks) marks
+
+pub cells_start : (trail : Assigned) (last : ℕ) (refused : Lit) (blanks marked : List Lit) → IsOver trail.vars refused → place_of trail.steps (variable refused) ≡ Some last
+    → AddsBlanks trail last (refused ∷ []) blanks → Marks trail.steps last refused blanks marked → AreCells trail.steps last marked
+cells_start trail last refused blanks marked over at adds marks =
+    cells_marked trail last (refused ∷ []) blanks marked (cells_begin trail last refused blanks adds)
+    (All-cons (IsMarkable trail last) refused [] (refused_markable trail last refused over at) (All-nil (IsMarkable trail last)))
+    (refused_marked trail last refused blanks marked over at marks)
+
+-- the first cell is that of the refused literal
+first_stays : (trail : Assigned) (last : ℕ) (refused : Lit) (blanks marked : List Lit) → IsOver trail.vars refused → place_of trail.steps (variable refused) ≡ Some last
+    → AddsBlanks trail last (refused ∷ []) blanks → Marks trail.steps last refused blanks marked → cell marked 0 ≡ refused
+first_stays trail last refused blanks marked over at adds marks =
+    elim ((refused_marked trail last refused blanks marked over at marks).stays 0) [
+      | inl same ↦ same ∙ ap (λ xs. cell xs 0) adds.is
+      | inr some ↦
+          let low : some.4.place ≤ last = (All-contains (IsMarkable trail last) (refused ∷ []) some.1
+          (All-cons (IsMarkable trail last) refused [] (refused_markable trail last refused over at) (All-nil (IsMarkable trail last)))
+          (some.0, some.2, some.3)).before some.4.place some.4.found in
+          absurd (omega (arith, some.4.at_is, low))
+    ]
+
+-- the literals behind the refused one give its negation
+gives_refused : (clauses : List (List Lit)) (trail : Assigned) (last : ℕ) (refused : Lit) (blanks marked known : List Lit) → IsTrailOf trail.steps clauses → IsOver trail.vars refused
+    → IsFalse trail.steps refused → place_of trail.steps (variable refused) ≡ Some last → AddsBlanks trail last (refused ∷ []) blanks → Marks trail.steps last refused blanks marked
+    → IsClosed clauses known → HasFilled known marked → Contains known (negation refused)
+gives_refused clauses trail last refused blanks marked known of over wrong at adds marks closed has =
+    let by = false_anywhere trail refused adds.is_trail wrong in
+    let same : by.place ≡ last = same_Some by.place last (sym by.found ∙ at) in
+    let all = refused_marked trail last refused blanks marked over at marks in
+    subst (Contains known) by.negates (elim (cases_lt (last + 1) (by.place + length blanks)) [
+      | inl within ↦
+          let holds : cell marked (last + 1 - by.place) ≡ by.step.lit =
+          All-head (IsMarkedIn trail.steps last (length blanks) marked) refused [] all.marked by.place by.step by.found by.there within in
+          subst (Contains known) holds
+          (has (last + 1 - by.place) (omega arith) (subst (λ l. l ≢ blank) (sym holds) (step_filled trail by.place by.step adds.is_trail by.there)))
+      | inr past ↦
+          ground_step clauses trail known by.place by.step adds.is_trail of closed by.there ((cells_begin trail last refused blanks adds).ground by.place by.step past by.there)
+    ])
+
+-- a list by its first element
+starts_with : {X : Type 0} (xs : List X) (x d : X) → 1 ≤ length xs → get_or xs 0 d ≡ x → (rest : List X) × (xs ≡ x ∷ rest)
+starts_with [] x d some is = absurd (omega (arith, some))
+starts_with (y ∷ xs) x d some is = (xs, ap (λ z. z ∷ xs) is)
+
+none_left : {X : Type 0} (xs : List X) → length xs ≡ 0 → xs ≡ []
+none_left [] is = refl
+none_left (x ∷ xs) is = absurd (omega (arith, is))
+
+-- what is left are decisions
+all_decided : (clauses : List (List Lit)) (steps : List Step) (last : ℕ) (start : List Lit) (refused : Lit) (rest : List Lit) → last < length steps
+    → ExplainsAll clauses steps last start (refused ∷ rest) → All (IsDecision steps) (filter (λ lit. not (is_blank lit)) rest)
+all_decided clauses steps last start refused rest below all k d inside =
+    All-filter (λ lit. not (is_blank lit)) (λ lit. not (is_blank lit) ≡ true → IsDecision steps lit) rest decided k d inside
+    (filter_passes (λ lit. not (is_blank lit)) rest k d inside)
+  where
+    decided : All (λ lit. not (is_blank lit) ≡ true → IsDecision steps lit) rest
+    decided i e within passes =
+        let there : slice_get steps (last + 1 - suc i) ≡ Some (get_or steps (last + 1 - suc i) none) = slice_get-get_or steps (last + 1 - suc i) none (omega (arith, below)) in
+        let same : cell (refused ∷ rest) (suc i) ≡ get_or rest i e = get_or_from_slice_get rest i (get_or rest i e) blank (slice_get-get_or rest i e within) in
+        let filled : IsFilled (refused ∷ rest) (suc i) = subst (λ l. l ≢ blank) (sym same) (passes_filled (get_or rest i e) passes) in
+        any_from (λ s. (s.lit ≡ get_or rest i e) × (s.reason ≡ None)) steps (get_or steps (last + 1 - suc i) none)
+        (here_at steps (last + 1 - suc i) (get_or steps (last + 1 - suc i) none) there) (
+          sym (all.cells.holds (suc i) (get_or steps (last + 1 - suc i) none) (omega arith) there filled) ∙ same,
+          all.decided (suc i) (get_or steps (last + 1 - suc i) none) (omega arith) there filled,
+        )
+
+-- a list that has the decisions has all literals behind the refused one
+filled_kept : (refused : Lit) (rest known : List Lit) → HasAll known (filter (λ lit. not (is_blank lit)) rest) → HasFilled known (refused ∷ rest)
+filled_kept refused rest known has zero first filled = absurd (omega (arith, first))
+filled_kept refused rest known has (suc at) first filled =
+    elim (cases_lt at (length rest)) [
+      | inl inside ↦
+          All-contains (Contains known) (filter (λ lit. not (is_blank lit)) rest) (get_or rest at blank) has
+          (has_kept (λ lit. not (is_blank lit)) rest (get_or rest at blank) (All-contains_itself rest at blank inside) (filled_passes (get_or rest at blank) filled))
+      | inr past ↦ absurd (filled (get_or_past rest at blank past))
+    ]
+
+-- where the refused literal is false at level 0 nothing stands behind it
+alone_ground : (clauses : List (List Lit)) (trail : Assigned) (last : ℕ) (refused : Lit) (blanks marked rest : List Lit) → IsFalse trail.steps refused
+    → place_of trail.steps (variable refused) ≡ Some last → AddsBlanks trail last (refused ∷ []) blanks → length marked ≡ length blanks
+    → ExplainsAll clauses trail.steps last marked (refused ∷ rest) → level_at trail.steps refused ≡ 0 → rest ≡ []
+alone_ground clauses trail last refused blanks marked rest wrong at adds sized all level =
+    let by = false_anywhere trail refused adds.is_trail wrong in
+    let same : by.place ≡ last = same_Some by.place last (sym by.found ∙ at) in
+    let holds = place_holds trail.steps (variable refused) last at in
+    let low : adds.low ≡ last + 1 = adds.above holds.0 holds.1 (sym (level_found trail.steps refused holds.0 holds.3).0 ∙ level) in
+    let count : length blanks ≡ 1 + (last + 1 - adds.low) = blanks_count trail last refused blanks adds in
+    none_left rest (omega (arith, low, count, sized, all.sized))
+
+-- the core of literals and blanks, without the blanks
+core_of : (clauses : List (List Lit)) (trail : Assigned) (last : ℕ) (refused : Lit) (blanks marked rest : List Lit) → IsTrailOf trail.steps clauses → IsOver trail.vars refused
+    → IsFalse trail.steps refused → place_of trail.steps (variable refused) ≡ Some last → AddsBlanks trail last (refused ∷ []) blanks → Marks trail.steps last refused blanks marked
+    → ExplainsAll clauses trail.steps last marked (refused ∷ rest) → AddsDecisions clauses trail.steps refused (filter (λ lit. not (is_blank lit)) (refused ∷ rest))
+core_of clauses trail last refused blanks marked rest of over wrong at adds marks all =
+    record {
+      decisions = filter (λ lit. not (is_blank lit)) rest;
+      is = ap (λ b. cond b (refused ∷ filter (λ lit. not (is_blank lit)) rest) (filter (λ lit. not (is_blank lit)) rest)) (filled_passes refused (over_filled trail.vars refused over));
+      decided = all_decided clauses trail.steps last marked refused rest (place_within trail.steps (variable refused) last at) all;
+      gives = λ known has closed.
+          gives_refused clauses trail last refused blanks marked known of over wrong at adds marks closed (all.gives known closed (filled_kept refused rest known has));
+      alone = λ level.
+          ap (filter (λ lit. not (is_blank lit)))
+          (alone_ground clauses trail last refused blanks marked rest wrong at adds (refused_marked trail last refused blanks marked over at marks).sized all level);
+    }
+
+pub adds_decisions : (clauses : List (List Lit)) (trail : Assigned) (last : ℕ) (refused : Lit) (start blanks marked explained core : List Lit) → IsTrailOf trail.steps clauses
+    → IsOver trail.vars refused → IsFalse trail.steps refused → place_of trail.steps (variable refused) ≡ Some last → start ≡ refused ∷ [] → AddsBlanks trail last start blanks
+    → Marks trail.steps last refused blanks marked → ExplainsAll clauses trail.steps last marked explained → core ≡ filter (λ lit. not (is_blank lit)) explained
+    → AddsDecisions clauses trail.steps refused core
+adds_decisions clauses trail last refused start blanks marked explained core of over wrong at alone adds marks all kept =
+    let adds_one : AddsBlanks trail last (refused ∷ []) blanks = subst (λ xs. AddsBlanks trail last xs blanks) alone adds in
+    let parts = starts_with explained refused blank all.cells.some (all.first ∙ first_stays trail last refused blanks marked over at adds_one marks) in
+    subst (AddsDecisions clauses trail.steps refused) (sym (kept ∙ ap (filter (λ lit. not (is_blank lit))) parts.1))
+    (core_of clauses trail last refused blanks marked parts.0 of over wrong at adds_one marks (subst (ExplainsAll clauses trail.steps last marked) parts.1 all))
 
 -- ---- cores
 
-pub cannot_meet : (clauses : List (List Lit)) (refused : Lit) (decisions : List Lit) → InClosure clauses decisions (negation refused) → CannotMeet clauses (refused ∷ decisions)
+cannot_meet : (clauses : List (List Lit)) (refused : Lit) (decisions : List Lit) → InClosure clauses decisions (negation refused) → CannotMeet clauses (refused ∷ decisions)
 cannot_meet clauses refused decisions given values meets all =
     not_both values refused (All-head (IsTrueIn values) refused decisions all)
     (closure_holds values clauses decisions (negation refused) meets (All-tail (IsTrueIn values) refused decisions all) given)
 
--- what is false at level 0 is false whatever is decided
-pub ground_closure : (clauses : List (List Lit)) (trail : Assigned) (refused : Lit) → IsTrail trail → IsTrailOf trail.steps clauses → IsFalse trail.steps refused → level_at trail.steps refused ≡ 0
-    → InClosure clauses [] (negation refused)
-ground_closure clauses trail refused is of wrong level known has closed =
-    let by = refuter trail.steps refused wrong in
-    subst (Contains known) by.negates
-    (All-contains (λ step. step.level ≡ 0 → Contains known step.lit) trail.steps by.step
-    (subst (All (λ step. step.level ≡ 0 → Contains known step.lit)) (take-length trail.steps)
-    (ground_known clauses trail known is of closed (length trail.steps) (omega arith)))
-    by.here (sym (level_found trail.steps refused by.step by.found).0 ∙ level))
+pub adds_unmet : (clauses : List (List Lit)) (steps : List Step) (refused : Lit) (core : List Lit) → AddsDecisions clauses steps refused core → CannotMeet clauses core
+adds_unmet clauses steps refused core adds = subst (CannotMeet clauses) (sym adds.is) (cannot_meet clauses refused adds.decisions adds.gives)
 
-pub adds_none : (clauses : List (List Lit)) (trail : Assigned) (refused : Lit) (core : List Lit) → IsTrail trail → IsTrailOf trail.steps clauses → IsFalse trail.steps refused
-    → level_at trail.steps refused ≡ 0 → AddsDecisions clauses trail.steps refused core core
-adds_none clauses trail refused core is of wrong level =
-    record {
-      decisions = [];
-      is = sym (append-nil core);
-      decided = All-nil (IsDecision trail.steps);
-      gives = ground_closure clauses trail refused is of wrong level;
-      alone = λ same. refl;
-    }
-
--- a level that was read
-pub level_read : (steps : List Step) (lit : Lit) (var : ℕ) (found : Option ℕ) (level : ℕ) → level ≡ unwrap_or found 0 → found ≡ level_of steps var → var ≡ variable lit → level ≡ level_at steps lit
-level_read steps lit var found level is by at = is ∙ ap (λ o. unwrap_or o 0) (by ∙ ap (level_of steps) at)
-
--- the refused literal comes first
-pub core_is : (refused : Lit) (empty first core decisions : List Lit) → empty ≡ [] → first ≡ empty ++ refused ∷ [] → core ≡ first ++ decisions → core ≡ refused ∷ decisions
-core_is refused empty first core decisions none one more = more ∙ ap (λ lits. lits ++ decisions) (one ∙ ap (λ lits. lits ++ refused ∷ []) none)
-
--- an assignment of level 0 is read as such
-pub ground_level : (steps : List Step) (lit : Lit) → level_of steps (variable lit) ≡ Some 0 → level_at steps lit ≡ 0
-ground_level steps lit is = ap (λ o. unwrap_or o 0) is
+-- a false literal has its place
+pub false_placed : (steps : List Step) (lit : Lit) → IsFalse steps lit → place_of steps (variable lit) ≢ None
+false_placed steps lit wrong unplaced =
+    let by = refuter steps lit wrong in
+    let found : step_of steps (variable lit) ≡ None = sym (step_lacking steps (variable lit) unplaced) in
+    cc by.found

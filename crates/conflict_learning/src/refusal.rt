@@ -1,15 +1,22 @@
-// Why an assumption is refused: the decisions that led to its being false.
-ghost use Rattle.std.specs.Prelude.{◌≡◌, ◌≤◌, ◌<◌, [], ◌∷◌, ◌+◌, ℕ, All, Some, length, OnOk};
+// Why an assumption is refused: the decisions that led to its being false. The core is the table
+// while they are sought. Behind the refused literal it has a cell for each assignment above level 0,
+// from the one of its variable back, the latest first. A cell is blank or has the literal of its
+// assignment. From the front on, each literal that a clause forced gives way to those that forced it.
+ghost use Rattle.std.specs.Prelude.{◌≡◌, ◌≤◌, ◌<◌, [], ◌∷◌, ◌+◌, ℕ, All, Some, length, filter, not, OnOk};
 ghost use Rattle.clause_store.specs.Clause.{variable, IsOver};
-ghost use Rattle.clause_store.specs.Trail.{IsTrailOf, level_of};
+ghost use Rattle.clause_store.specs.Trail.{IsTrailOf, level_of, place_of};
 ghost use Rattle.conflict_learning.specs.Analysis.{IsFalse};
-ghost use Rattle.conflict_learning.specs.Marks.{IsMarked};
-ghost use Rattle.conflict_learning.specs.Refusal.{IsCore, CannotMeet, AddsDecisions, IsFitting, Explains};
+ghost use Rattle.conflict_learning.specs.Refusal.{IsCore, CannotMeet, AddsDecisions, AddsBlanks, AreCells, is_blank, IsMarkable, Marks, MarksAll, Explains, ExplainsAll};
 
-use clause_store::{Clause, Lit, NoMemory, Step, Store, Trail};
+use clause_store::{Clause, Lit, NoMemory, Store, Trail};
 use std::alloc::Global;
 
-/// Why a false literal can't be true as well. After want of memory `core` may hold any clause.
+/// What stands in a cell that has no literal.
+const BLANK: Lit = Lit(0);
+
+/// Why a false literal can't be true as well. It takes memory for the core alone, and looks at the
+/// assignments above level 0 from the literal's back and at their reasons. After want of memory
+/// `core` may hold any clause.
 pub fn final_core(
     alloc: Global,
     store: &Store,
@@ -26,8 +33,10 @@ pub fn final_core(
 {
     core.clear();
     core.push(alloc, refused)?;
-    add_decisions(alloc, store, trail, refused, core)?;
-    Ok(())
+    match trail.place_of(refused.var()) {
+        None => Ok(()),
+        Some(last) => add_decisions(alloc, store, trail, last, refused, core),
+    }
 }
 
 /// Adds the decisions that made a literal false: none where it is false at level 0.
@@ -35,59 +44,116 @@ fn add_decisions(
     alloc: Global,
     store: &Store,
     trail: &Trail,
+    last: usize,
     refused: Lit,
     core: &mut Clause,
 ) -> Result<(), NoMemory>
     requires of_store { IsTrailOf trail.now.steps store.now }
     requires over { IsOver trail.now.vars refused }
     requires is_false { IsFalse trail.now.steps refused }
-    ensures { OnOk result (AddsDecisions store.now trail.now.steps refused core.old core.new) }
+    requires at { place_of trail.now.steps (variable refused) ≡ Some last }
+    requires alone { core.old ≡ refused ∷ [] }
+    ensures { OnOk result (AddsDecisions store.now trail.now.steps refused core.new) }
+{
+    add_blanks(alloc, trail, last, core)?;
+    mark(trail, last, refused, core);
+    explain_all(store, trail, last, core);
+    drop_blanks(core);
+    Ok(())
+}
+
+/// Adds a blank for each assignment above level 0, from the one at `last` back.
+fn add_blanks(alloc: Global, trail: &Trail, last: usize, core: &mut Clause) -> Result<(), NoMemory>
+    requires { last < length trail.now.steps }
+    ensures { OnOk result (AddsBlanks trail.now last core.old core.new) }
 {
     let steps = trail.steps();
-    let var = refused.var();
-    if trail.level_of(var).unwrap_or(0) == 0 {
-        return Ok(());
-    }
-    let mut marks = vec![in alloc; false; trail.vars() as usize + 1]?;
-    marks[var.0 as usize] = true;
-    let mut at = steps.len();
-    while at > 0 {
-        at -= 1;
-        explain(alloc, store, &steps[at], &mut marks, core)?;
+    let mut low = last + 1;
+    while low > 0 && steps[low - 1].level > 0 {
+        core.push(alloc, BLANK)?;
+        low -= 1;
     }
     Ok(())
 }
 
-/// Adds a marked assignment that is a decision, or marks what forced it.
-fn explain(
-    alloc: Global,
-    store: &Store,
-    step: &Step,
-    marks: &mut [bool],
-    core: &mut Clause,
-) -> Result<(), NoMemory>
-    requires { IsFitting store.now (length marks.old) step.now }
-    ensures { OnOk result (Explains store.now step.now marks.old marks.new core.old core.new) }
+/// Replaces literals that were forced by their reasons, until only decisions are left.
+fn explain_all(store: &Store, trail: &Trail, last: usize, core: &mut Clause)
+    requires of_store { IsTrailOf trail.now.steps store.now }
+    requires within { last < length trail.now.steps }
+    requires cells { AreCells trail.now.steps last core.old }
+    ensures { ExplainsAll store.now trail.now.steps last core.old core.new }
 {
-    if !marks[step.lit.var().0 as usize] {
-        return Ok(());
+    for at in 1..core.len() {
+        explain(store, trail, last, at, core);
     }
-    match step.reason {
-        None => core.push(alloc, step.lit),
+}
+
+/// Replaces the literal of a cell by its reason, if it has one.
+fn explain(store: &Store, trail: &Trail, last: usize, at: usize, core: &mut Clause)
+    requires of_store { IsTrailOf trail.now.steps store.now }
+    requires within { last < length trail.now.steps }
+    requires cells { AreCells trail.now.steps last core.old }
+    requires first { 1 ≤ at }
+    requires here { at < length core.old }
+    ensures { Explains store.now trail.now.steps last at core.old core.new }
+{
+    if is_blank(*core.get(at)) {
+        return;
+    }
+    let steps = trail.steps();
+    match steps[last + 1 - at].reason {
+        None => {}
         Some(why) => {
-            mark_all(store.lits(why), marks);
-            Ok(())
+            mark_all(trail, last, store.lits(why), core);
+            core.set(at, BLANK);
         }
     }
 }
 
-/// Marks the variables of a clause.
-fn mark_all(lits: &[Lit], marks: &mut [bool])
-    requires { All (λ lit. variable lit < length marks.old) lits.now }
-    ensures kept { (var : ℕ) → IsMarked marks.old var → IsMarked marks.new var }
-    ensures marked { All (λ lit. IsMarked marks.new (variable lit)) lits.now }
+/// Marks the assignments of the variables of a clause.
+fn mark_all(trail: &Trail, last: usize, lits: &[Lit], core: &mut Clause)
+    requires within { last < length trail.now.steps }
+    requires markable { All (IsMarkable trail.now last) lits.now }
+    ensures { MarksAll trail.now.steps last lits.now core.old core.new }
 {
     for lit in lits {
-        marks[lit.var().0 as usize] = true;
+        mark(trail, last, *lit, core);
     }
+}
+
+/// Puts the literal of the assignment of a variable into its cell, if it has one.
+fn mark(trail: &Trail, last: usize, lit: Lit, core: &mut Clause)
+    requires within { last < length trail.now.steps }
+    requires markable { IsMarkable trail.now last lit }
+    ensures { Marks trail.now.steps last lit core.old core.new }
+{
+    let steps = trail.steps();
+    if let Some(place) = trail.place_of(lit.var()) {
+        let cell = last + 1 - place;
+        if cell < core.len() {
+            core.set(cell, steps[place].lit);
+        }
+    }
+}
+
+/// Takes the blanks out.
+fn drop_blanks(core: &mut Clause)
+    ensures { core.new ≡ filter (λ lit. not (is_blank lit)) core.old }
+{
+    let mut kept = 0;
+    for at in 0..core.len() {
+        let lit = *core.get(at);
+        if !is_blank(lit) {
+            core.set(kept, lit);
+            kept += 1;
+        }
+    }
+    core.truncate(kept);
+}
+
+/// Whether there is no literal.
+fn is_blank(lit: Lit) -> bool
+    ensures { result ≡ is_blank lit }
+{
+    lit == BLANK
 }

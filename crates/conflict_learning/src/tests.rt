@@ -1,5 +1,5 @@
 use super::*;
-use clause_store::{Clause, Lit, NoMemory, Store, Trail};
+use clause_store::{Clause, Lit, NoMemory, Store, Trail, Value};
 use std::alloc::Global;
 use std::test::Fail;
 
@@ -83,5 +83,37 @@ fn a_core_of_level_0_names_no_decision(rt: HostRuntime) -> Result<(), Fail> {
     let mut core = Clause::open();
     final_core(alloc, &store, &trail, Lit(5), &mut core)?;
     assert!(rt; core.as_slice() == [Lit(5)].as_slice());
+    Ok(())
+}
+
+#[test]
+fn cores_name_what_matters(rt: HostRuntime) -> Result<(), Fail> {
+    let alloc = rt.alloc();
+    let mut store = Store::open();
+    let ground = store.add(alloc, &[Lit(2)])?;
+    let first = store.add(alloc, &[Lit(3), Lit(5), Lit(8)])?;
+    let second = store.add(alloc, &[Lit(9), Lit(10)])?;
+    let mut trail = Trail::open(alloc, 5)?;
+    trail.assign(&store, Lit(2), ground);
+    trail.decide(Lit(4));
+    trail.decide(Lit(6));
+    trail.assign(&store, Lit(8), first);
+    trail.assign(&store, Lit(10), second);
+    let cases = [
+        (Lit(3), None),
+        (Lit(5), Some(Lit(4))),
+        (Lit(7), Some(Lit(6))),
+        (Lit(9), Some(Lit(4))),
+        (Lit(11), Some(Lit(4))),
+    ];
+    let mut core = Clause::open();
+    for (refused, decided) in cases {
+        assert!(rt; trail.has(refused) && trail.value(refused) == Value::No);
+        final_core(alloc, &store, &trail, refused, &mut core)?;
+        match decided {
+            None => assert!(rt; core.as_slice() == [refused].as_slice()),
+            Some(decision) => assert!(rt; core.as_slice() == [refused, decision].as_slice()),
+        }
+    }
     Ok(())
 }

@@ -1,26 +1,13 @@
-use Rattle.std.proofs.Common.{◌∙◌, ◌∷◌, sym, ap, subst}
-use Rattle.conflict_learning.specs.Refusal.{CannotMeet}
+use Rattle.std.proofs.Common.{◌∙◌, ap, sym}
+use Rattle.std.proofs.lemmas.Result.{on_ok_weaker}
+use Rattle.clause_store.specs.Trail.{place_of}
 use Rattle.conflict_learning.proofs.RefusalLemmas as lemma
 use Rattle.conflict_learning.proofs.refusal.final_core.Goals as goal
 
-pub returns-clause-core : goal.returns-clause-core
-returns-clause-core c =
-    let added = c.in_ok-add_decisions.ensures in
-    record {
-      decisions = added.decisions;
-      is = lemma.core_is c.args.refused c.clear.new.self c.push.new.self c.add_decisions.new.core added.decisions c.clear.ensures c.in_ok-push.ensures.ok added.is;
-      decided = added.decided;
-    }
+pub returns-in-None-clause-unmet : goal.returns-in-None-clause-unmet
+returns-in-None-clause-unmet c values meets all =
+    lemma.false_placed c.args.trail.now.steps c.args.refused c.requires.is_false (ap (place_of c.args.trail.now.steps) (sym c.var.ensures) ∙ sym c.place_of.ensures ∙ c.in-None.is)
 
-pub returns-clause-unmet : goal.returns-clause-unmet
-returns-clause-unmet c =
-    let added = c.in_ok-add_decisions.ensures in
-    subst (CannotMeet c.args.store.now)
-    (sym (lemma.core_is c.args.refused c.clear.new.self c.push.new.self c.add_decisions.new.core added.decisions c.clear.ensures c.in_ok-push.ensures.ok added.is))
-    (lemma.cannot_meet c.args.store.now c.args.refused added.decisions added.gives)
-
-pub returns-clause-alone : goal.returns-clause-alone
-returns-clause-alone c ground =
-    let added = c.in_ok-add_decisions.ensures in
-    lemma.core_is c.args.refused c.clear.new.self c.push.new.self c.add_decisions.new.core added.decisions c.clear.ensures c.in_ok-push.ensures.ok added.is
-    ∙ ap (λ lits. c.args.refused ∷ lits) (added.alone (lemma.ground_level c.args.trail.now.steps c.args.refused ground))
+pub returns-in-Some-clause-unmet : goal.returns-in-Some-clause-unmet
+returns-in-Some-clause-unmet c =
+    on_ok_weaker c.add_decisions.result (lemma.adds_unmet c.args.store.now c.args.trail.now.steps c.args.refused c.add_decisions.new.core) c.add_decisions.ensures
