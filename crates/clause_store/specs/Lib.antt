@@ -1,6 +1,7 @@
 pub mod Clause
 pub mod Entailment
 pub mod Trail
+pub mod Standing
 pub mod Spent
 pub mod Layout
 pub mod Arrays

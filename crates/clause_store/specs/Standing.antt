@@ -1,0 +1,40 @@
+-- How literals and clauses stand on a trail, and which assignments are followed.
+use Rattle.std.specs.Prelude.{◌≡◌, ◌≢◌, ℕ, List, slice_get, All, Any, Contains, Some}
+use Rattle.clause_store.specs.declared.literal.Lit.{Lit}
+use Rattle.clause_store.specs.declared.literal.ClauseRef.{ClauseRef}
+use Rattle.clause_store.specs.declared.literal.Value.TheVariants.{No, Unset}
+use Rattle.clause_store.specs.declared.step.Step.{Step}
+use Rattle.clause_store.specs.Trail.{value_of}
+
+-- a literal is false by the assignments
+abbrev pub IsFalse : List Step → Lit → Type 0
+IsFalse steps lit = value_of steps lit ≡ No
+
+-- all literals of a clause are false
+abbrev pub IsFalseOn : List Step → List Lit → Type 0
+IsFalseOn steps clause = All (IsFalse steps) clause
+
+-- a literal of a clause is unset, and all others are false
+pub record IsUnitOn (steps : List Step) (clause : List Lit) (lit : Lit) : Type 0 where
+  pub here : Contains clause lit
+  pub unset : value_of steps lit ≡ Unset
+  pub others : All (λ other. other ≢ lit → IsFalse steps other) clause
+
+-- the clause of that number is false
+pub record IsConflict (clauses : List (List Lit)) (steps : List Step) (at : ClauseRef) : Type 0 where
+  pub clause : List Lit
+  pub named : slice_get clauses at.0 ≡ Some clause
+  pub is_false : IsFalseOn steps clause
+
+-- an assignment by its literal, with its level
+pub record Followed : Type 0 where
+  pub lit : Lit
+  pub level : ℕ
+
+-- an assignment is one of the trail, with its level
+abbrev pub IsOn : List Step → Followed → Type 0
+IsOn steps it = Any (λ step. (step.lit ≡ it.lit) × (step.level ≡ it.level)) steps
+
+-- each followed assignment is on the trail with its level
+abbrev pub AreOn : List Step → List Followed → Type 0
+AreOn steps followed = All (IsOn steps) followed
