@@ -11,9 +11,10 @@ use Rattle.clause_store.specs.declared.step.Step.{Step}
 use Rattle.clause_store.specs.Clause.{variable, negation, is_negated}
 use Rattle.clause_store.specs.Entailment.{InClosure, IsClosed, Refutes, negations, others}
 use Rattle.clause_store.specs.Trail.{Assigned, IsTrail, step_of, value_by, value_of}
+use Rattle.clause_store.specs.Standing.{IsUnitOn}
 use Rattle.clause_store.proofs.LiteralLemmas.{cases_lit, has_first, has_later, has_mapped, is_negated-negation, lit_of_code, mapped_from, variable-negation}
 use Rattle.clause_store.proofs.TrailLemmas.{find_passes}
-use Rattle.propagator.specs.Fixpoint.{IsFixpoint, IsQuietOn, IsUnitOn}
+use Rattle.propagator.specs.Fixpoint.{IsFixpoint, IsQuietOn}
 use Rattle.propagator.specs.Laws.{FixpointHasClosure, FixpointRefutesNone, FixpointAbsorbsNoUnit}
 use Rattle.propagator.proofs.HoldLemmas.{assigned_yes}
 

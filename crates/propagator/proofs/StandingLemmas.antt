@@ -9,10 +9,11 @@ use Rattle.clause_store.specs.declared.literal.Value.TheVariants.{Yes, No, Unset
 use Rattle.clause_store.specs.declared.step.Step.{Step}
 use Rattle.clause_store.specs.Clause.{variable, HasNoVariableTwice}
 use Rattle.clause_store.specs.Trail.{value_of}
+use Rattle.clause_store.specs.Standing.{IsFalseOn, IsUnitOn}
 use Rattle.clause_store.proofs.LiteralLemmas.{cases_lit}
 use Rattle.propagator.specs.declared.standing.Standing.{Standing}
 use Rattle.propagator.specs.declared.standing.Standing.TheVariants.{Satisfied, Open, Unit as UnitLit, False}
-use Rattle.propagator.specs.Fixpoint.{IsFalseOn, IsUnitOn, IsQuietOn}
+use Rattle.propagator.specs.Fixpoint.{IsQuietOn}
 use Rattle.propagator.specs.Standings.{HasNoneTrue, IsOpenOn, IsStanding}
 
 -- one more literal that isn't true

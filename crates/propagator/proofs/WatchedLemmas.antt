@@ -1,18 +1,19 @@
 -- Attached clauses when a store grows, and what is true of the store once it is true of them.
-use Rattle.std.proofs.Common.{◌≡◌, ◌≢◌, ℕ, ◌<◌, List, [], ◌∷◌, ◌++◌, length, get_or, Some, refl, sym, ap, ◌∙◌, subst, inl, inr, arith, length-append}
+use Rattle.std.proofs.Common.{◌≡◌, ℕ, ◌<◌, List, [], ◌∷◌, ◌++◌, length, get_or, Some, refl, sym, ap, ◌∙◌, subst, inl, inr, arith, length-append}
 use Rattle.std.specs.Prelude.{All, Any, slice_get}
 use Rattle.std.proofs.lemmas.Bool.{cases_lt}
-use Rattle.std.proofs.lemmas.Option.{same_Some, slice_get_within, get_or_from_slice_get}
+use Rattle.std.proofs.lemmas.Option.{same_Some, get_or_from_slice_get}
 use Rattle.std.proofs.lemmas.List.Elements.{All-contains, All-push, All-weaker, Contains-append_left}
-use Rattle.std.proofs.lemmas.List.Quantifiers.{Any-push, all_pairs_push}
+use Rattle.std.proofs.lemmas.List.Quantifiers.{Any-push}
 use Rattle.clause_store.specs.declared.literal.Lit.{Lit}
 use Rattle.clause_store.specs.declared.literal.ClauseRef.{ClauseRef}
 use Rattle.clause_store.specs.declared.step.Step.{Step}
 use Rattle.clause_store.proofs.LiteralLemmas.{any_from}
 use Rattle.clause_store.specs.Clause.{IsOver}
 use Rattle.clause_store.specs.Trail.{Assigned}
+use Rattle.clause_store.specs.Standing.{Followed, AreOn}
 use Rattle.clause_store.proofs.TrailLemmas.{slice_get-append, trail_stays}
-use Rattle.propagator.specs.Watched.{Attached, Followed, Watched, AreAttached, AreOn, IsAttached, IsReady}
+use Rattle.propagator.specs.Watched.{Attached, Watched, AreAttached, IsAttached, IsReady}
 use Rattle.propagator.specs.Fixpoint.{IsFixpoint, IsQuietOn}
 use Rattle.propagator.specs.Laws.{ReadyWithMore, ReadyWithClause, ReadyAfterRewind}
 
@@ -27,7 +28,7 @@ slice_get-last (y ∷ xs) x = slice_get-last xs x
 attached_push : (attached : List Attached) (clauses : List (List Lit)) (at : ClauseRef) (clause : List Lit) → AreAttached attached clauses
     → at.0 ≡ length clauses → AreAttached (attached ++ record { at = at; lits = clause } ∷ []) (clauses ++ clause ∷ [])
 attached_push attached clauses at clause is last =
-    record { named = named; complete = complete; once = once }
+    record { named = named; complete = complete }
   where
     entry : Attached
     entry = record { at = at; lits = clause }
@@ -46,13 +47,14 @@ attached_push attached clauses at clause is last =
           | inr after ↦ Any-push (λ it. it.at.0 ≡ k) attached entry (omega (arith, length-append clauses (clause ∷ []), last))
         ]
 
-    once : (i j : ℕ) (d : Attached) → i < j → j < length (attached ++ entry ∷ []) → (get_or (attached ++ entry ∷ []) i d).at ≢ (get_or (attached ++ entry ∷ []) j d).at
-    once =
-        all_pairs_push (λ one two. one.at ≢ two.at) attached entry is.once
-        (λ k d within same.
-        let there : (get_or attached k d).at.0 < length clauses = slice_get_within clauses (get_or attached k d).at.0 (get_or attached k d).lits (is.named k d within) in
-        let equal : (get_or attached k d).at.0 ≡ at.0 = ap (λ a. a.0) same in
-        omega arith)
+-- and where a clause of the store is attached once more
+attached_again : (attached : List Attached) (clauses : List (List Lit)) (entry : Attached) → AreAttached attached clauses
+    → slice_get clauses entry.at.0 ≡ Some entry.lits → AreAttached (attached ++ entry ∷ []) clauses
+attached_again attached clauses entry is there =
+    record {
+      named = All-push (λ it. slice_get clauses it.at.0 ≡ Some it.lits) attached entry is.named there;
+      complete = λ k within. any-append_left (λ it. it.at.0 ≡ k) attached (entry ∷ []) (is.complete k within);
+    }
 
 -- what is followed stays on the trail when assignments come last
 followed_stay : (steps added : List Step) (followed : List Followed) → AreOn steps followed → AreOn (steps ++ added) followed
@@ -105,6 +107,20 @@ pub ready_with_clause : ReadyWithClause
 ready_with_clause clauses more clause trail old new at ready over last more_is is =
     subst (λ all. IsReady all trail new) (sym more_is)
     (ready_with_last clauses clause trail old new at ready over last (subst (λ all. IsAttached all at old new) more_is is))
+
+-- all stay ready when a clause of the store is attached once more
+pub ready_with_again : (clauses : List (List Lit)) (trail : Assigned) (old new : Watched) (at : ClauseRef) → IsReady clauses trail old
+    → IsAttached clauses at old new → IsReady clauses trail new
+ready_with_again clauses trail old new at ready is =
+    record {
+      attached =
+          subst (λ watches. AreAttached watches.clauses clauses) (sym is.last)
+          (attached_again old.clauses clauses (record { at = at; lits = is.clause }) ready.attached is.named);
+      same_vars = ap (λ watches. watches.vars) is.last ∙ ready.same_vars;
+      over = ready.over;
+      followed = subst (λ watches. AreOn trail.steps watches.followed) (sym is.last) ready.followed;
+      of_store = ready.of_store;
+    }
 
 pub ready_after_rewind : ReadyAfterRewind
 ready_after_rewind clauses old new watches rewound ready same of rest on =

@@ -2,13 +2,14 @@
 use Rattle.std.specs.Prelude.{◌≡◌, ◌≢◌, ◌++◌, List, [], ◌∷◌, length, All, slice_get, Some}
 use Rattle.clause_store.specs.declared.literal.Lit.{Lit}
 use Rattle.clause_store.specs.declared.literal.ClauseRef.{ClauseRef}
-use Rattle.clause_store.specs.declared.literal.Value.TheVariants.{Yes, No}
+use Rattle.clause_store.specs.declared.literal.Value.TheVariants.{Yes}
 use Rattle.clause_store.specs.declared.step.Step.{Step}
 use Rattle.clause_store.specs.Clause.{IsOver}
 use Rattle.clause_store.specs.Entailment.{Absorbs, InClosure, Refutes}
 use Rattle.clause_store.specs.Trail.{Assigned, IsTrail, IsTrailOf, value_of}
-use Rattle.propagator.specs.Watched.{Watched, AreOn, IsAttached, IsReady}
-use Rattle.propagator.specs.Fixpoint.{Extends, IsFixpoint, IsUnitOn}
+use Rattle.clause_store.specs.Standing.{AreOn, IsFalse, IsUnitOn}
+use Rattle.propagator.specs.Watched.{Watched, IsAttached, IsReady}
+use Rattle.propagator.specs.Fixpoint.{Extends, IsFixpoint}
 
 -- the store, the trail and the watches stay ready when assignments come last
 abbrev pub ReadyWithMore : Type 0
@@ -39,7 +40,7 @@ pub record HoldsAsReason (clauses : List (List Lit)) (steps : List Step) (step :
   pub clause : List Lit
   pub named : slice_get clauses why.0 ≡ Some clause
   pub yes : value_of steps step.lit ≡ Yes
-  pub others : All (λ other. other ≢ step.lit → value_of steps other ≡ No) clause
+  pub others : All (λ other. other ≢ step.lit → IsFalse steps other) clause
 
 -- on a trail of the store the literal of each reason is true and its others are false
 abbrev pub ReasonsHold : Type 0

@@ -4,9 +4,9 @@ use Rattle.clause_store.specs.declared.literal.Lit.{Lit}
 use Rattle.clause_store.specs.declared.literal.Value.TheVariants.{Yes, Unset}
 use Rattle.clause_store.specs.declared.step.Step.{Step}
 use Rattle.clause_store.specs.Trail.{value_of}
+use Rattle.clause_store.specs.Standing.{IsFalseOn, IsUnitOn}
 use Rattle.propagator.specs.declared.standing.Standing.{Standing}
 use Rattle.propagator.specs.declared.standing.Standing.TheVariants.{Satisfied, Open, Unit as UnitLit, False}
-use Rattle.propagator.specs.Fixpoint.{IsFalseOn, IsUnitOn}
 
 -- no literal is true
 abbrev pub HasNoneTrue : List Step → List Lit → Type 0

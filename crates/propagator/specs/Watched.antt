@@ -1,21 +1,17 @@
 -- What contracts see of watches: the clauses that were attached, and the assignments that are followed.
-use Rattle.std.specs.Prelude.{◌≡◌, ◌≢◌, ◌<◌, ℕ, List, [], ◌∷◌, ◌++◌, length, slice_get, All, AllPairs, Any, Some}
+use Rattle.std.specs.Prelude.{◌≡◌, ◌<◌, ℕ, List, [], ◌∷◌, ◌++◌, length, slice_get, All, Any, Some}
 use Rattle.clause_store.specs.declared.literal.Lit.{Lit}
 use Rattle.clause_store.specs.declared.literal.ClauseRef.{ClauseRef}
 use Rattle.clause_store.specs.declared.step.Step.{Step}
 use Rattle.clause_store.specs.Clause.{AreOver}
 use Rattle.clause_store.specs.Trail.{Assigned, IsTrailOf}
+use Rattle.clause_store.specs.Standing.{Followed, AreOn}
 use Rattle.propagator.specs.Fixpoint.{IsQuietOn}
 
 -- a clause of a store by its number, with the literals that it had
 pub record Attached : Type 0 where
   pub at : ClauseRef
   pub lits : List Lit
-
--- an assignment by its literal, with its level
-pub record Followed : Type 0 where
-  pub lit : Lit
-  pub level : ℕ
 
 -- the watches over the variables 1 to `vars`
 pub record Watched : Type 0 where
@@ -27,11 +23,10 @@ pub record Watched : Type 0 where
 abbrev pub AreNamed : List (List Lit) → List Attached → Type 0
 AreNamed clauses attached = All (λ it. slice_get clauses it.at.0 ≡ Some it.lits) attached
 
--- the attached clauses are just the clauses of the store: none is left out, and none is there twice
+-- the attached clauses are just the clauses of the store: none is left out
 pub record AreAttached (attached : List Attached) (clauses : List (List Lit)) : Type 0 where
   pub named : AreNamed clauses attached
   pub complete : (at : ℕ) → at < length clauses → Any (λ it. it.at.0 ≡ at) attached
-  pub once : AllPairs (λ one two. one.at ≢ two.at) attached
 
 -- the clause of that number was put last, with its literals, and nothing else changed
 pub record IsAttached (clauses : List (List Lit)) (at : ClauseRef) (old new : Watched) : Type 0 where
@@ -42,14 +37,6 @@ pub record IsAttached (clauses : List (List Lit)) (at : ClauseRef) (old new : Wa
 -- each attached clause is neither false nor a unit
 abbrev pub AreQuietOn : List Step → List Attached → Type 0
 AreQuietOn steps attached = All (λ it. IsQuietOn steps it.lits) attached
-
--- an assignment is one of the trail, with its level
-abbrev pub IsOn : List Step → Followed → Type 0
-IsOn steps it = Any (λ step. (step.lit ≡ it.lit) × (step.level ≡ it.level)) steps
-
--- each followed assignment is on the trail with its level
-abbrev pub AreOn : List Step → List Followed → Type 0
-AreOn steps followed = All (IsOn steps) followed
 
 -- what propagation asks of a store, a trail and watches, and leaves: the watches are just of the store's
 -- clauses and over the trail's variables, follow only assignments of the trail, and the trail is of the store

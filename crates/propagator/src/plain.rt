@@ -2,8 +2,9 @@
 ghost use Rattle.std.specs.Prelude.{◌≡◌, length, IfNone, IfSome};
 ghost use Rattle.clause_store.specs.Clause.{AreOver};
 ghost use Rattle.clause_store.specs.Trail.{IsTrailOf};
+ghost use Rattle.clause_store.specs.Standing.{IsConflict};
 ghost use Rattle.propagator.specs.Watched.{AreNamed, AreQuietOn};
-ghost use Rattle.propagator.specs.Fixpoint.{IsConflict, Extends};
+ghost use Rattle.propagator.specs.Fixpoint.{Extends};
 
 use crate::entry::Entry;
 use crate::standing::Standing;

@@ -1,6 +1,7 @@
 ghost use Rattle.std.specs.Prelude.{◌≡◌, IfNone, IfSome};
+ghost use Rattle.clause_store.specs.Standing.{IsConflict};
 ghost use Rattle.propagator.specs.Watched.{IsReady};
-ghost use Rattle.propagator.specs.Fixpoint.{IsFixpoint, IsConflict, Extends};
+ghost use Rattle.propagator.specs.Fixpoint.{IsFixpoint, Extends};
 
 use crate::{Watches, plain};
 use clause_store::{ClauseRef, Store, Trail};

@@ -1,4 +1,4 @@
-ghost use Rattle.std.specs.Prelude.{◌≡◌, ◌<◌, ◌^◌, All, IfOk};
+ghost use Rattle.std.specs.Prelude.{◌≡◌, ◌<◌, ◌^◌, length, All, IfOk};
 ghost use Rattle.clause_store.specs.Clause.{IsClause, IsOver};
 ghost use Rattle.propagator.specs.Watched.{IsReady};
 
@@ -34,11 +34,22 @@ impl Scene {
         requires clause { IsClause lits.now }
         requires over { All (IsOver self.old.trail.vars) lits.now }
         ensures ready { IfOk result (λ _. IsReady self.new.store self.new.trail self.new.watches) }
+        ensures at { IfOk result (λ at. at.0 < length self.new.store) }
         ensures vars { self.new.trail.vars ≡ self.old.trail.vars }
     {
         let at = self.store.add(alloc, lits)?;
         self.watches.attach(alloc, &self.store, &self.trail, at)?;
         Ok(at)
+    }
+
+    fn attach_again(&mut self, alloc: Global, at: ClauseRef) -> Result<(), NoMemory>
+        requires ready { IsReady self.old.store self.old.trail self.old.watches }
+        requires at { at.0 < length self.old.store }
+        ensures ready { IfOk result (λ _. IsReady self.new.store self.new.trail self.new.watches) }
+        ensures vars { self.new.trail.vars ≡ self.old.trail.vars }
+    {
+        self.watches.attach(alloc, &self.store, &self.trail, at)?;
+        Ok(())
     }
 
     fn decide(&mut self, lit: Lit)
@@ -108,5 +119,20 @@ fn a_unit_stands_at_level_0_and_the_empty_clause_is_false(rt: HostRuntime) -> Re
     assert_eq!(rt; scene.trail.level_of(Var(1)), Some(0));
     let empty = scene.add(rt.alloc(), &[])?;
     assert_eq!(rt; scene.run(), Some(empty));
+    Ok(())
+}
+
+#[test]
+fn a_clause_may_be_attached_twice(rt: HostRuntime) -> Result<(), Fail> {
+    let mut scene = Scene::open(rt.alloc(), 2)?;
+    let why = scene.add(rt.alloc(), &[Lit(3), Lit(4)])?;
+    scene.attach_again(rt.alloc(), why)?;
+    scene.decide(Lit(2));
+    assert_eq!(rt; scene.run(), None);
+    assert_eq!(rt; scene.trail.steps().len(), 2);
+    assert_eq!(rt; scene.trail.reason(Var(2)), Some(why));
+    let refuted = scene.add(rt.alloc(), &[Lit(3), Lit(5)])?;
+    scene.attach_again(rt.alloc(), refuted)?;
+    assert_eq!(rt; scene.run(), Some(refuted));
     Ok(())
 }

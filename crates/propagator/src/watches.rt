@@ -1,8 +1,9 @@
 // The clauses that propagation goes over. As it goes over all of them each time, no assignment has to
 // be followed between two calls.
-ghost use Rattle.std.specs.Prelude.{◌≡◌, ◌<◌, ◌^◌, [], ◌∷◌, ◌++◌, length, slice_get, Some, IfOk, OnErr};
+ghost use Rattle.std.specs.Prelude.{◌≡◌, ◌<◌, ◌^◌, [], length, IfOk, OnErr};
 ghost use Rattle.clause_store.specs.Clause.{AreOver};
-ghost use Rattle.propagator.specs.Watched.{Attached, AreOn, IsAttached};
+ghost use Rattle.clause_store.specs.Standing.{AreOn};
+ghost use Rattle.propagator.specs.Watched.{IsAttached};
 
 use crate::entry::Entry;
 use clause_store::{ClauseRef, List, NoMemory, Store, Trail};
@@ -37,7 +38,8 @@ impl Watches {
         })
     }
 
-    /// Puts the clause `at` of the store last. After want of memory the watches are as before.
+    /// Puts the clause `at` of the store last; it may be attached already. After want of memory the
+    /// watches are as before.
     pub fn attach(
         &mut self,
         alloc: Global,
