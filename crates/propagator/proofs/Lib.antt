@@ -4,3 +4,4 @@ pub mod WatchedLemmas
 pub mod HoldLemmas
 pub mod PassLemmas
 pub mod ClosureLemmas
+pub mod AttachLemmas

@@ -15,7 +15,7 @@ use Rattle.clause_store.specs.Standing.{Followed, AreOn}
 use Rattle.clause_store.proofs.TrailLemmas.{slice_get-append, trail_stays}
 use Rattle.propagator.specs.Watched.{Attached, Watched, AreAttached, IsAttached, IsReady}
 use Rattle.propagator.specs.Fixpoint.{IsFixpoint, IsQuietOn}
-use Rattle.propagator.specs.Laws.{ReadyWithMore, ReadyWithClause, ReadyAfterRewind}
+use Rattle.propagator.specs.Laws.{ReadyWithMore, ReadyWithClause, ReadyAfterRewind, ReadyWithAgain}
 
 any-append_left : {X : Type 0} (P : X → Type 0) (xs ys : List X) → Any P xs → Any P (xs ++ ys)
 any-append_left P xs ys (k, x, within, is, p) = any_from P (xs ++ ys) x (Contains-append_left xs ys x (k, within, is)) p
@@ -109,8 +109,7 @@ ready_with_clause clauses more clause trail old new at ready over last more_is i
     (ready_with_last clauses clause trail old new at ready over last (subst (λ all. IsAttached all at old new) more_is is))
 
 -- all stay ready when a clause of the store is attached once more
-pub ready_with_again : (clauses : List (List Lit)) (trail : Assigned) (old new : Watched) (at : ClauseRef) → IsReady clauses trail old
-    → IsAttached clauses at old new → IsReady clauses trail new
+pub ready_with_again : ReadyWithAgain
 ready_with_again clauses trail old new at ready is =
     record {
       attached =

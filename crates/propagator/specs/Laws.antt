@@ -1,10 +1,10 @@
 -- Laws of the words of this crate. Each is a clause of a function in src/laws.rt.
-use Rattle.std.specs.Prelude.{◌≡◌, ◌≢◌, ◌++◌, List, [], ◌∷◌, length, All, slice_get, Some}
+use Rattle.std.specs.Prelude.{◌≡◌, ◌≢◌, ◌<◌, ◌+◌, ◌++◌, List, [], ◌∷◌, length, take, All, slice_get, Some}
 use Rattle.clause_store.specs.declared.literal.Lit.{Lit}
 use Rattle.clause_store.specs.declared.literal.ClauseRef.{ClauseRef}
 use Rattle.clause_store.specs.declared.literal.Value.TheVariants.{Yes}
 use Rattle.clause_store.specs.declared.step.Step.{Step}
-use Rattle.clause_store.specs.Clause.{IsOver}
+use Rattle.clause_store.specs.Clause.{IsOver, AreOver}
 use Rattle.clause_store.specs.Entailment.{Absorbs, InClosure, Refutes}
 use Rattle.clause_store.specs.Trail.{Assigned, IsTrail, IsTrailOf, value_of}
 use Rattle.clause_store.specs.Standing.{AreOn, IsFalse, IsUnitOn}
@@ -23,6 +23,19 @@ ReadyWithClause =
     (clauses more : List (List Lit)) (clause : List Lit) (trail : Assigned) (old new : Watched) (at : ClauseRef) → IsReady clauses trail old
     → All (IsOver trail.vars) clause → at.0 ≡ length clauses → more ≡ clauses ++ clause ∷ [] → IsAttached more at old new
     → IsReady more trail new
+
+-- and when a clause of the store is attached once more
+abbrev pub ReadyWithAgain : Type 0
+ReadyWithAgain =
+    (clauses : List (List Lit)) (trail : Assigned) (old new : Watched) (at : ClauseRef) → IsReady clauses trail old
+    → IsAttached clauses at old new → IsReady clauses trail new
+
+-- where the first clauses of a store are attached and the next one is, that many and one are
+abbrev pub ReadyWithNext : Type 0
+ReadyWithNext =
+    (clauses : List (List Lit)) (trail : Assigned) (old new : Watched) (at : ClauseRef) → AreOver trail.vars clauses
+    → at.0 < length clauses → IsReady (take at.0 clauses) trail old → IsAttached clauses at old new
+    → IsReady (take (at.0 + 1) clauses) trail new
 
 -- and when the trail goes back and the watches with it
 abbrev pub ReadyAfterRewind : Type 0

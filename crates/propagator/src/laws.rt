@@ -1,6 +1,6 @@
 // The laws of readiness, of propagation, of reasons and of the fixpoint, for the crates above. They do
 // nothing when they run.
-ghost use Rattle.propagator.specs.Laws.{ReadyWithMore, ReadyWithClause, ReadyAfterRewind};
+ghost use Rattle.propagator.specs.Laws.{ReadyWithMore, ReadyWithClause, ReadyWithAgain, ReadyWithNext, ReadyAfterRewind};
 ghost use Rattle.propagator.specs.Laws.{ExtendingGoesOn, ReasonsHold};
 ghost use Rattle.propagator.specs.Laws.{FixpointHasClosure, FixpointRefutesNone, FixpointAbsorbsNoUnit};
 
@@ -12,6 +12,16 @@ pub fn ready_with_more()
 /// They stay ready when a clause is put into the store and attached.
 pub fn ready_with_clause()
     ensures { ReadyWithClause }
+{}
+
+/// They stay ready when a clause of the store is attached once more.
+pub fn ready_with_again()
+    ensures { ReadyWithAgain }
+{}
+
+/// Where the first clauses of a store are attached and the next one is, that many and one are.
+pub fn ready_with_next()
+    ensures { ReadyWithNext }
 {}
 
 /// They stay ready when the trail goes back and the watches with it.

@@ -1,5 +1,5 @@
 use Rattle.std.proofs.Common.{arith}
-use Rattle.completion_trials.proofs.AttachLemmas.{ready_with_next}
+use Rattle.propagator.proofs.AttachLemmas.{ready_with_next}
 use Rattle.completion_trials.proofs.scene.attach_all.Goals as goal
 
 pub loop-at-preserved : goal.loop-at-preserved

@@ -1,18 +1,14 @@
 -- Attaching the clauses of a store one after another.
-use Rattle.std.proofs.Common.{◌≡◌, ◌<◌, ◌+◌, List, [], ◌∷◌, ◌++◌, length, take, get_or, Some, sym, ap, ◌∙◌, subst, arith, All}
+use Rattle.std.proofs.Common.{◌≡◌, ◌+◌, [], ◌∷◌, ◌++◌, take, get_or, Some, sym, ap, ◌∙◌, subst, arith, All}
 use Rattle.std.specs.Prelude.{slice_get}
 use Rattle.std.proofs.lemmas.List.{take_more, length-take-le, get_or-take}
 use Rattle.std.proofs.lemmas.Option.{get_or_from_slice_get, slice_get_read}
-use Rattle.clause_store.specs.declared.literal.Lit.{Lit}
-use Rattle.clause_store.specs.declared.literal.ClauseRef.{ClauseRef}
-use Rattle.clause_store.specs.Clause.{IsOver, AreOver}
-use Rattle.clause_store.specs.Trail.{Assigned}
-use Rattle.propagator.specs.Watched.{Watched, IsAttached, IsReady}
+use Rattle.clause_store.specs.Clause.{IsOver}
+use Rattle.propagator.specs.Laws.{ReadyWithNext}
 use Rattle.propagator.proofs.WatchedLemmas.{ready_with_clause}
 
 -- where the first clauses of a store are ready and the next one is attached, that many and one are ready
-pub ready_with_next : (clauses : List (List Lit)) (trail : Assigned) (old new : Watched) (at : ClauseRef) → AreOver trail.vars clauses
-    → at.0 < length clauses → IsReady (take at.0 clauses) trail old → IsAttached clauses at old new → IsReady (take (at.0 + 1) clauses) trail new
+pub ready_with_next : ReadyWithNext
 ready_with_next clauses trail old new at over within ready is =
     ready_with_clause (take at.0 clauses) (take (at.0 + 1) clauses) is.clause trail old new at ready
     (subst (All (IsOver trail.vars)) here (over at.0 is.clause within)) (sym (length-take-le at.0 clauses (omega (arith, within))))
