@@ -1,5 +1,6 @@
 // The way of a text up to propagation: read, normalised, completed, and with its clauses attached.
 ghost use Rattle.std.specs.Prelude.{◌≡◌, [], IfOk, IfSome};
+ghost use Rattle.ground_program.specs.Program.{IsProgram};
 ghost use Rattle.clause_store.specs.Clause.{AreOver};
 ghost use Rattle.rule_normaliser.specs.Limit.{IsNormal};
 ghost use Rattle.rule_normaliser.specs.Normal.{variables};
@@ -7,6 +8,7 @@ ghost use Rattle.propagator.specs.Watched.{IsReady};
 
 use clause_store::{ClauseRef, Lit, NoMemory, Store, Trail, Value};
 use completion::complete;
+use ground_program::Program;
 use lparse_reader::parse;
 use propagator::{Watches, propagate};
 use rule_normaliser::{Normal, normalise};
@@ -20,17 +22,23 @@ pub struct Scene {
     pub watches: Watches,
 }
 
-/// The normal form of a text. None is a text that is refused, or want of memory.
-pub fn normal_of(alloc: Global, text: &[u8]) -> Option<Normal>
-    ensures { IfSome result IsNormal }
+/// The program of a text. None is a text that is too long or refused, or want of memory.
+pub fn program_of(alloc: Global, text: &[u8]) -> Option<Program>
+    ensures { IfSome result IsProgram }
 {
     if text.len() > 67108864 {
         return None;
     }
-    match parse(alloc, text) {
-        Ok(program) => normalise(alloc, &program).ok(),
-        Err(_) => None,
-    }
+    parse(alloc, text).ok()
+}
+
+/// The normal form of a text. None is a text without a program or with too many variables, or want of
+/// memory.
+pub fn normal_of(alloc: Global, text: &[u8]) -> Option<Normal>
+    ensures { IfSome result IsNormal }
+{
+    let program = program_of(alloc, text)?;
+    normalise(alloc, &program).ok()
 }
 
 /// The completed scene of a normal form, with nothing assigned.
