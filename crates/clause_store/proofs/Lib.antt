@@ -6,3 +6,4 @@ pub mod StepLemmas
 pub mod PlaceLemmas
 pub mod ArrayLemmas
 pub mod ReasonLemmas
+pub mod BackLemmas

@@ -1,10 +1,11 @@
 -- Laws of the words of this crate. Each is a clause of a function in src/laws.rt.
-use Rattle.std.specs.Prelude.{◌≡◌, ◌≢◌, ◌++◌, Bool, List, [], ◌∷◌, All, AllPairs, Contains, IsTrue, ◌↔◌}
+use Rattle.std.specs.Prelude.{◌≡◌, ◌≢◌, ◌≤◌, ◌++◌, ℕ, Bool, List, [], ◌∷◌, All, AllPairs, Contains, IsSomeAnd, IsTrue, ◌↔◌}
 use Rattle.clause_store.specs.declared.literal.Lit.{Lit}
-use Rattle.clause_store.specs.declared.literal.Value.TheVariants.{Yes}
-use Rattle.clause_store.specs.Clause.{makes_true, IsTrueIn, Meets, HasAll, IsOver}
+use Rattle.clause_store.specs.declared.literal.Value.TheVariants.{Yes, Unset}
+use Rattle.clause_store.specs.declared.step.Step.{Step}
+use Rattle.clause_store.specs.Clause.{variable, makes_true, IsTrueIn, Meets, HasAll, IsOver}
 use Rattle.clause_store.specs.Entailment.{Follows, InClosure, Refutes, Absorbs, AreUnits, IsUnit, negations}
-use Rattle.clause_store.specs.Trail.{Assigned, IsTotal, KeepsTrails, value_of, values_of}
+use Rattle.clause_store.specs.Trail.{Assigned, IsTrail, IsTotal, KeepsTrails, value_of, level_of, up_to, values_of}
 
 -- more clauses and more literals: each of one list is in the other
 abbrev pub AreMoreClauses : List (List Lit) → List (List Lit) → Type 0
@@ -66,3 +67,19 @@ abbrev pub TotalMeans : Type 0
 TotalMeans =
     (trail : Assigned) (lit : Lit) → IsTotal trail → IsOver trail.vars lit
     → IsTrue (makes_true (values_of trail) lit) ↔ (value_of trail.steps lit ≡ Yes)
+
+-- the variable of a literal was assigned at a level or before
+abbrev pub IsAssignedBy : ℕ → List Step → Lit → Type 0
+IsAssignedBy level steps lit = IsSomeAnd (level_of steps (variable lit)) (λ at. at ≤ level)
+
+-- going back to a level keeps the value of a literal that was assigned at it or before, and unsets
+-- any other
+pub record IsValuedAfterBack (level : ℕ) (steps : List Step) (lit : Lit) : Type 0 where
+  pub kept : IsAssignedBy level steps lit → value_of (up_to level steps) lit ≡ value_of steps lit
+  pub unset : ¬ IsAssignedBy level steps lit → value_of (up_to level steps) lit ≡ Unset
+
+-- so on each trail
+abbrev pub ValuesAfterBack : Type 0
+ValuesAfterBack =
+    (trail : Assigned) (level : ℕ) (lit : Lit) → IsTrail trail
+    → IsValuedAfterBack level trail.steps lit

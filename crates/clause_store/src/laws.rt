@@ -1,5 +1,5 @@
 // The laws of closure, units and trails, for the crates above. They do nothing when they run.
-ghost use Rattle.clause_store.specs.Laws.{ClosureGrows, RefutingGrows, AbsorbingGrows, ContainingIsAbsorbed, UnitsDiffer, UnitsGrow, ClosureHolds, RefutedFollows, TrailStays, TotalMeans};
+ghost use Rattle.clause_store.specs.Laws.{ClosureGrows, RefutingGrows, AbsorbingGrows, ContainingIsAbsorbed, UnitsDiffer, UnitsGrow, ClosureHolds, RefutedFollows, TrailStays, TotalMeans, ValuesAfterBack};
 
 /// The closure only grows with the clauses and with the literals.
 pub fn closure_grows()
@@ -49,4 +49,10 @@ pub fn trail_stays()
 /// The assignment of a total trail makes just the literals true that are true on the trail.
 pub fn total_means()
     ensures { TotalMeans }
+{}
+
+/// After going back to a level a literal that was assigned at it or before has the value that it
+/// had, and any other is unset.
+pub fn values_after_back()
+    ensures { ValuesAfterBack }
 {}

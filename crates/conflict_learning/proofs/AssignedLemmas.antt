@@ -14,7 +14,8 @@ use Rattle.clause_store.proofs.LiteralLemmas.{has_later, lit_of_code}
 use Rattle.clause_store.proofs.TrailLemmas.{find_passes}
 use Rattle.clause_store.proofs.StepLemmas.{rises_front, present_end, last_unset, step_of_new}
 use Rattle.clause_store.proofs.ArrayLemmas.{other_variable}
-use Rattle.conflict_learning.specs.Analysis.{IsFalse, level_at}
+use Rattle.clause_store.specs.Standing.{IsFalse}
+use Rattle.conflict_learning.specs.Analysis.{level_at}
 
 -- an assignment, for reads past the end
 abbrev pub blank : Step

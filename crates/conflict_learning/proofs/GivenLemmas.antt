@@ -15,7 +15,8 @@ use Rattle.clause_store.specs.Entailment.{IsForcedBy, IsClosed, negations}
 use Rattle.clause_store.specs.Trail.{Assigned, IsTrail, IsTrailOf, IsReasonFor, present_level, next_level}
 use Rattle.clause_store.proofs.LiteralLemmas.{has_mapped, mapped_from, all_through, negation-negation}
 use Rattle.conflict_learning.specs.declared.walk.Walk.{Walk}
-use Rattle.conflict_learning.specs.Analysis.{IsFalse, level_at}
+use Rattle.clause_store.specs.Standing.{IsFalse}
+use Rattle.conflict_learning.specs.Analysis.{level_at}
 use Rattle.conflict_learning.specs.Marks.{is_marked, IsMarked, is_open}
 use Rattle.conflict_learning.specs.Walk.{IsUnderWay, GivenBy, IsLater, IsNoted, NotesAll}
 use Rattle.conflict_learning.proofs.AssignedLemmas.{blank, here_at, step_of_before, false_later, IsRefuter, refuter, below_present, step_at, level_found}

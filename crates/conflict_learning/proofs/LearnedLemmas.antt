@@ -17,7 +17,8 @@ use Rattle.clause_store.specs.Trail.{Assigned, IsTrailOf, IsReasonFor, step_of, 
 use Rattle.clause_store.proofs.LiteralLemmas.{all_through, any_from, cases_lit, has_mapped, negation-negation, variable-negation}
 use Rattle.clause_store.proofs.ArrayLemmas.{negation_differs}
 use Rattle.conflict_learning.specs.declared.walk.Walk.{Walk}
-use Rattle.conflict_learning.specs.Analysis.{IsFalse, StandsIn, level_at, greatest_level, IsConflict, IsAsserting}
+use Rattle.clause_store.specs.Standing.{IsFalse, IsConflict}
+use Rattle.conflict_learning.specs.Analysis.{StandsIn, level_at, greatest_level, IsAsserting}
 use Rattle.conflict_learning.specs.Marks.{IsMarked, is_open}
 use Rattle.conflict_learning.specs.Walk.{IsLower, IsUnderWay, AllStand, GivenBy, Begins, IsNotable, NotesAll, GoesBack, ResolvesTo}
 use Rattle.conflict_learning.proofs.AssignedLemmas.{here_at, refuter, false_later, false_over, below_present, step_at, level_found}
@@ -266,11 +267,6 @@ greatest_more steps lits at d within = ap (greatest_level steps) (take_more lits
 
 pub conflict_false : (clauses : List (List Lit)) (steps : List Step) (at : ClauseRef) (lits : List Lit) → IsConflict clauses steps at → slice_get clauses at.0 ≡ Some lits → All (IsFalse steps) lits
 conflict_false clauses steps at lits is named = subst (All (IsFalse steps)) (same_Some is.clause lits (sym is.named ∙ named)) is.is_false
-
-pub conflict_present : (clauses : List (List Lit)) (steps : List Step) (at : ClauseRef) (lits : List Lit) → IsConflict clauses steps at → slice_get clauses at.0 ≡ Some lits
-    → Any (λ lit. level_at steps lit ≡ present_level steps) lits
-conflict_present clauses steps at lits is named =
-    subst (Any (λ lit. level_at steps lit ≡ present_level steps)) (same_Some is.clause lits (sym is.named ∙ named)) is.present
 
 -- its literals may be noted
 pub conflict_notable : (trail : Assigned) (begun : Walk) (lits : List Lit) → Begins trail begun → All (IsFalse trail.steps) lits → All (IsNotable trail begun.at) lits

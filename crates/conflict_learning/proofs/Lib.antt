@@ -5,3 +5,5 @@ pub mod WalkLemmas
 pub mod ClearLemmas
 pub mod LearnedLemmas
 pub mod RefusalLemmas
+pub mod UnitLemmas
+pub mod TestLemmas

@@ -16,7 +16,8 @@ use Rattle.clause_store.proofs.LiteralLemmas.{any_from, any_through, cases_lit, 
 use Rattle.clause_store.proofs.EntailmentLemmas.{closure_holds, not_both}
 use Rattle.clause_store.proofs.TrailLemmas.{slice_get-append}
 use Rattle.clause_store.proofs.PlaceLemmas.{place_holds, place_of_at, place_within, step_lacking}
-use Rattle.conflict_learning.specs.Analysis.{IsFalse, level_at}
+use Rattle.clause_store.specs.Standing.{IsFalse}
+use Rattle.conflict_learning.specs.Analysis.{level_at}
 use Rattle.conflict_learning.specs.Refusal.{IsDecision, CannotMeet, blank, is_blank, cell, IsFilled, HasFilled, AreCells, AddsDecisions, AddsBlanks, IsMarkable, Marks, IsMarkOf, IsMarkedIn, MarksAll, Explains, ExplainsAll}
 use Rattle.conflict_learning.proofs.AssignedLemmas.{blank as none, here_at, refuter, step_at, level_found, false_later, false_over, below_present}
 use Rattle.conflict_learning.proofs.GivenLemmas.{forced_known, ground_known}

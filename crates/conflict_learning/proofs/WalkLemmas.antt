@@ -15,7 +15,8 @@ use Rattle.clause_store.specs.Trail.{Assigned, IsTrail, step_of, present_level}
 use Rattle.clause_store.proofs.StepLemmas.{trail_fits}
 use Rattle.clause_store.proofs.LiteralLemmas.{all_through, any_from, negation-negation}
 use Rattle.conflict_learning.specs.declared.walk.Walk.{Walk}
-use Rattle.conflict_learning.specs.Analysis.{IsFalse, StandsIn, level_at}
+use Rattle.clause_store.specs.Standing.{IsFalse}
+use Rattle.conflict_learning.specs.Analysis.{StandsIn, level_at}
 use Rattle.conflict_learning.specs.Marks.{HasNoMark, is_marked, IsMarked, is_open}
 use Rattle.conflict_learning.specs.Walk.{IsLower, IsProgress, IsUnderWay, Begins, IsLater, IsNoted, Notes, NotesAll, GoesBack}
 use Rattle.conflict_learning.proofs.AssignedLemmas.{step_of_before, IsRefuter, refuter, false_later, false_over, trail_before, below_present, take_there, step_at, level_found}

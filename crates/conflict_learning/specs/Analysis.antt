@@ -2,14 +2,9 @@
 use Rattle.std.specs.Prelude.{◌≡◌, ◌≢◌, ◌<◌, ℕ, max, List, [], ◌∷◌, All, Any, Contains, slice_get, Some, unwrap_or}
 use Rattle.clause_store.specs.declared.literal.Lit.{Lit}
 use Rattle.clause_store.specs.declared.literal.ClauseRef.{ClauseRef}
-use Rattle.clause_store.specs.declared.literal.Value.TheVariants.{No}
 use Rattle.clause_store.specs.declared.step.Step.{Step}
 use Rattle.clause_store.specs.Clause.{variable}
-use Rattle.clause_store.specs.Trail.{value_of, level_of, present_level}
-
--- a literal is false by the assignments
-abbrev pub IsFalse : List Step → Lit → Type 0
-IsFalse steps lit = value_of steps lit ≡ No
+use Rattle.clause_store.specs.Trail.{level_of, present_level}
 
 -- a literal is one of a clause of the store
 abbrev pub StandsIn : List (List Lit) → Lit → Type 0
@@ -24,12 +19,11 @@ abbrev pub greatest_level : List Step → List Lit → ℕ
 greatest_level steps [] = 0
 greatest_level steps (lit ∷ rest) = max (level_at steps lit) (greatest_level steps rest)
 
--- a clause of the store is false, and one of its literals is of the present level
-pub record IsConflict (clauses : List (List Lit)) (steps : List Step) (at : ClauseRef) : Type 0 where
-  pub clause : List Lit
-  pub named : slice_get clauses at.0 ≡ Some clause
-  pub is_false : All (IsFalse steps) clause
-  pub present : Any (λ lit. level_at steps lit ≡ present_level steps) clause
+-- the clause of that number has a literal of the present level
+abbrev pub HasPresent : List (List Lit) → List Step → ClauseRef → Type 0
+HasPresent clauses steps at =
+    (clause : List Lit) → slice_get clauses at.0 ≡ Some clause
+    → Any (λ lit. level_at steps lit ≡ present_level steps) clause
 
 -- a literal is the one of the present level in a clause
 pub record IsAsserting (steps : List Step) (clause : List Lit) (lit : Lit) : Type 0 where

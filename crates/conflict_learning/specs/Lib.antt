@@ -2,3 +2,4 @@ pub mod Analysis
 pub mod Refusal
 pub mod Marks
 pub mod Walk
+pub mod Laws

@@ -6,7 +6,8 @@ use Rattle.clause_store.specs.declared.step.Step.{Step}
 use Rattle.clause_store.specs.Clause.{variable, negation, HasAll, HasNoVariableTwice, IsOver}
 use Rattle.clause_store.specs.Entailment.{IsClosed, negations}
 use Rattle.clause_store.specs.Trail.{Assigned, IsTrail, present_level}
-use Rattle.conflict_learning.specs.Analysis.{IsFalse, StandsIn, level_at}
+use Rattle.clause_store.specs.Standing.{IsFalse}
+use Rattle.conflict_learning.specs.Analysis.{StandsIn, level_at}
 use Rattle.conflict_learning.specs.Marks.{IsMarked, is_open}
 use Rattle.conflict_learning.specs.declared.walk.Walk.{Walk}
 

@@ -3,8 +3,9 @@
 ghost use Rattle.std.specs.Prelude.{◌≡◌, ◌<◌, All, OnOk};
 ghost use Rattle.clause_store.specs.Clause.{HasNoVariableTwice, IsOver};
 ghost use Rattle.clause_store.specs.Entailment.{Follows, Refutes, negations, others};
+ghost use Rattle.clause_store.specs.Standing.{IsConflict, IsFalse};
 ghost use Rattle.clause_store.specs.Trail.{IsTrailOf, present_level};
-ghost use Rattle.conflict_learning.specs.Analysis.{IsConflict, IsFalse, StandsIn, IsAsserting, greatest_level};
+ghost use Rattle.conflict_learning.specs.Analysis.{HasPresent, StandsIn, IsAsserting, greatest_level};
 
 use crate::Learned;
 use crate::walk::{Walk, level_at};
@@ -22,6 +23,7 @@ pub fn analyse(
 ) -> Result<(), NoMemory>
     requires of_store { IsTrailOf trail.now.steps store.now }
     requires conflict { IsConflict store.now trail.now.steps conflict }
+    requires present { HasPresent store.now trail.now.steps conflict }
     requires above { 0 < present_level trail.now.steps }
 
     // The clause is implied, and unit propagation alone shows it.

@@ -3,6 +3,7 @@
 #![tactic(auto)]
 
 mod analysis;
+pub mod laws;
 mod learned;
 mod marks;
 mod refusal;

@@ -53,6 +53,7 @@ impl Marks {
     /// Puts a table back for the next walk.
     pub fn put_back(&mut self, table: Vec<bool>)
         requires { HasNoMark table.items }
+        ensures { self.new ≡ table.items }
     {
         self.table = Some(table);
     }

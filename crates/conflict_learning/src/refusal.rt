@@ -4,8 +4,8 @@
 // assignment. From the front on, each literal that a clause forced gives way to those that forced it.
 ghost use Rattle.std.specs.Prelude.{◌≡◌, ◌≤◌, ◌<◌, [], ◌∷◌, ◌+◌, ℕ, All, Some, length, filter, not, OnOk};
 ghost use Rattle.clause_store.specs.Clause.{variable, IsOver};
+ghost use Rattle.clause_store.specs.Standing.{IsFalse};
 ghost use Rattle.clause_store.specs.Trail.{IsTrailOf, level_of, place_of};
-ghost use Rattle.conflict_learning.specs.Analysis.{IsFalse};
 ghost use Rattle.conflict_learning.specs.Refusal.{IsCore, CannotMeet, AddsDecisions, AddsBlanks, AreCells, is_blank, IsMarkable, Marks, MarksAll, Explains, ExplainsAll};
 
 use clause_store::{Clause, Lit, NoMemory, Store, Trail};

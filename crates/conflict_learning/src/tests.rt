@@ -26,6 +26,22 @@ fn learn_at_two_levels(alloc: Global, learned: &mut Learned) -> Result<(), NoMem
     analyse(alloc, &store, &trail, conflict, learned)
 }
 
+/// Learns that variable 2 is false. The decision was on variable 1, but all implications pass through
+/// variable 2.
+fn learn_where_implications_meet(alloc: Global, learned: &mut Learned) -> Result<(), NoMemory> {
+    let mut store = Store::open();
+    let meeting = store.add(alloc, &[Lit(3), Lit(4)])?;
+    let one = store.add(alloc, &[Lit(5), Lit(6)])?;
+    let other = store.add(alloc, &[Lit(5), Lit(8)])?;
+    let conflict = store.add(alloc, &[Lit(7), Lit(9)])?;
+    let mut trail = Trail::open(alloc, 4)?;
+    trail.decide(Lit(2));
+    trail.assign(&store, Lit(4), meeting);
+    trail.assign(&store, Lit(6), one);
+    trail.assign(&store, Lit(8), other);
+    analyse(alloc, &store, &trail, conflict, learned)
+}
+
 #[test]
 fn one_level_is_learned_from(rt: HostRuntime) -> Result<(), Fail> {
     let mut learned = Learned::open();
@@ -41,6 +57,15 @@ fn two_levels_are_learned_from(rt: HostRuntime) -> Result<(), Fail> {
     learn_at_two_levels(rt.alloc(), &mut learned)?;
     assert!(rt; learned.clause.as_slice() == [Lit(3), Lit(17)].as_slice());
     assert_eq!(rt; (learned.back, learned.asserting), (1, Lit(17)));
+    Ok(())
+}
+
+#[test]
+fn the_first_unique_implication_point_is_learned(rt: HostRuntime) -> Result<(), Fail> {
+    let mut learned = Learned::open();
+    learn_where_implications_meet(rt.alloc(), &mut learned)?;
+    assert!(rt; learned.clause.as_slice() == [Lit(5)].as_slice());
+    assert_eq!(rt; (learned.back, learned.asserting), (0, Lit(5)));
     Ok(())
 }
 

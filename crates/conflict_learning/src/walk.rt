@@ -4,8 +4,9 @@
 // walks, and given back at the end.
 ghost use Rattle.std.specs.Prelude.{◌≡◌, ◌≢◌, ◌<◌, ◌∷◌, [], ◌++◌, ◌^◌, ◌↔◌, ℕ, All, List, IsTrue, take, length, OnOk, IfOk};
 ghost use Rattle.clause_store.specs.Clause.{variable, IsOver};
+ghost use Rattle.clause_store.specs.Standing.{IsFalse};
 ghost use Rattle.clause_store.specs.Trail.{IsTrailOf};
-ghost use Rattle.conflict_learning.specs.Analysis.{IsFalse, level_at};
+ghost use Rattle.conflict_learning.specs.Analysis.{level_at};
 ghost use Rattle.conflict_learning.specs.Marks.{HasNoMark, is_open};
 ghost use Rattle.conflict_learning.specs.Walk.{Begins, IsUnderWay, IsNotable, IsNoted, Notes, NotesAll, GoesBack, ResolvesTo};
 

@@ -16,7 +16,7 @@ pub resolve-requires-clause-some : goal.resolve-requires-clause-some
 resolve-requires-clause-some c =
     lemma.some_open c.args.trail.now c.lits.result.now c.begin-walk.result c.note_all.new.self c.begin-walk.ensures c.in_ok-note_all.ensures
     (lemma.conflict_false c.args.store.now c.args.trail.now.steps c.args.conflict c.lits.result.now c.requires.conflict c.lits.ensures.lits)
-    (lemma.conflict_present c.args.store.now c.args.trail.now.steps c.args.conflict c.lits.result.now c.requires.conflict c.lits.ensures.lits) c.requires.above
+    (c.requires.present c.lits.result.now c.lits.ensures.lits) c.requires.above
 
 pub greatest_level-back-requires : goal.greatest_level-back-requires
 greatest_level-back-requires c =

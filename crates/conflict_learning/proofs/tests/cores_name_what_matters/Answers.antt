@@ -1,12 +1,13 @@
-use Rattle.std.proofs.Common.{◌≡◌, ◌≢◌, ◌∙◌, ◌+◌, ℕ, List, [], ◌∷◌, ◌++◌, length, Some, None, refl, ap, subst, sym, arith}
-use Rattle.std.specs.Prelude.{All, Contains, slice_get}
+use Rattle.std.proofs.Common.{◌≡◌, ◌≢◌, ◌∙◌, List, [], ◌∷◌, ◌++◌, length, refl, ap, arith}
+use Rattle.std.specs.Prelude.{All}
 use Rattle.std.proofs.lemmas.List.Elements.{All-cons, All-nil}
 use Rattle.clause_store.specs.declared.literal.Lit.{Lit}
 use Rattle.clause_store.specs.declared.literal.ClauseRef.{ClauseRef}
 use Rattle.clause_store.specs.declared.literal.Value.TheVariants.{No}
 use Rattle.clause_store.specs.declared.step.Step.{Step}
-use Rattle.clause_store.specs.Trail.{Assigned, IsReasonFor, value_of, present_level}
+use Rattle.clause_store.specs.Trail.{Assigned, value_of}
 use Rattle.clause_store.proofs.LiteralLemmas.{coded}
+use Rattle.conflict_learning.proofs.TestLemmas.{decided, forced_by, forced, first_false}
 use Rattle.conflict_learning.proofs.tests.cores_name_what_matters.Goals as goal
 
 abbrev fact : List Lit
@@ -21,13 +22,6 @@ last = coded 9 ∷ coded 10 ∷ []
 stored : (none one two three : List (List Lit)) → none ≡ [] → one ≡ none ++ fact ∷ [] → two ≡ one ++ reason ∷ [] → three ≡ two ++ last ∷ [] → three ≡ fact ∷ reason ∷ last ∷ []
 stored none one two three a b c d = d ∙ ap (λ s. s ++ last ∷ []) (c ∙ ap (λ s. s ++ reason ∷ []) (b ∙ ap (λ s. s ++ fact ∷ []) a))
 
--- an assignment more
-abbrev decided : ℕ → List Step → List Step
-decided code steps = steps ++ record { lit = coded code; reason = None; level = present_level steps + 1 } ∷ []
-
-abbrev forced_by : ClauseRef → ℕ → List Step → List Step
-forced_by why code steps = steps ++ record { lit = coded code; reason = Some why; level = present_level steps } ∷ []
-
 abbrev before : ClauseRef → List Step
 before why = decided 6 (decided 4 (forced_by why 2 []))
 
@@ -41,47 +35,30 @@ later ground why = forced_by why 8 (before ground)
 abbrev all : List (List Lit)
 all = fact ∷ reason ∷ last ∷ []
 
--- a clause of the store forces a literal by the assignments that there are
-forced : (clauses : List (List Lit)) (steps there : List Step) (why : ClauseRef) (at : ℕ) (clause : List Lit) (lit : Lit) → clauses ≡ all → steps ≡ there → why.0 ≡ at
-    → slice_get all at ≡ Some clause → Contains clause lit → All (λ other. other ≢ lit → value_of there other ≡ No) clause → IsReasonFor clauses steps lit why
-forced clauses steps there why at clause lit stored_is steps_are place named here others =
-    record {
-      clause = clause;
-      named = ap (λ s. slice_get s why.0) stored_is ∙ ap (slice_get all) place ∙ named;
-      here = here;
-      others = subst (λ s. All (λ other. other ≢ lit → value_of s other ≡ No) clause) (sym steps_are) others;
-    }
-
-first_false : (ground : ClauseRef) → All (λ other. other ≢ coded 8 → value_of (before ground) other ≡ No) reason
-first_false ground =
+reason_false : (ground : ClauseRef) → All (λ other. other ≢ coded 8 → value_of (before ground) other ≡ No) reason
+reason_false ground =
     All-cons (λ other. other ≢ coded 8 → value_of (before ground) other ≡ No) (coded 3) (coded 5 ∷ coded 8 ∷ []) (λ differs. refl)
     (All-cons (λ other. other ≢ coded 8 → value_of (before ground) other ≡ No) (coded 5) (coded 8 ∷ []) (λ differs. refl)
     (All-cons (λ other. other ≢ coded 8 → value_of (before ground) other ≡ No) (coded 8) [] (λ differs. absurd (differs refl))
     (All-nil (λ other. other ≢ coded 8 → value_of (before ground) other ≡ No))))
 
-second_false : (ground why : ClauseRef) → All (λ other. other ≢ coded 10 → value_of (later ground why) other ≡ No) last
-second_false ground why =
-    All-cons (λ other. other ≢ coded 10 → value_of (later ground why) other ≡ No) (coded 9) (coded 10 ∷ []) (λ differs. refl)
-    (All-cons (λ other. other ≢ coded 10 → value_of (later ground why) other ≡ No) (coded 10) [] (λ differs. absurd (differs refl))
-    (All-nil (λ other. other ≢ coded 10 → value_of (later ground why) other ≡ No)))
-
 pub assign-requires-2-clause-forced : goal.assign-requires-2-clause-forced
 assign-requires-2-clause-forced g c =
-    forced c.add-3.new.self c.decide-2.new.self.steps (before c.in_ok-ground.ground) c.in_ok-first.first 1 reason (coded 8)
+    forced c.add-3.new.self all c.decide-2.new.self.steps (before c.in_ok-ground.ground) c.in_ok-first.first 1 reason (coded 8)
     (stored c.open-store.result c.add.new.self c.add-2.new.self c.add-3.new.self c.open-store.ensures c.in_ok-ground.ensures.ok c.in_ok-first.ensures.ok c.in_ok-second.ensures.ok)
     (assigned c.in_ok-ground.ground c.in_ok-trail.trail c.assign.new.self c.decide.new.self c.decide-2.new.self (ap (λ t. t.steps) c.in_ok-trail.ensures) (ap (λ t. t.steps) c.assign.ensures.steps)
     (ap (λ t. t.steps) c.decide.ensures.steps) (ap (λ t. t.steps) c.decide-2.ensures.steps))
-    (c.in_ok-first.ensures.at ∙ ap length (c.in_ok-ground.ensures.ok ∙ ap (λ s. s ++ fact ∷ []) c.open-store.ensures)) refl (2, omega arith, refl) (first_false c.in_ok-ground.ground)
+    (c.in_ok-first.ensures.at ∙ ap length (c.in_ok-ground.ensures.ok ∙ ap (λ s. s ++ fact ∷ []) c.open-store.ensures)) refl (2, omega arith, refl) (reason_false c.in_ok-ground.ground)
 
 pub assign-requires-3-clause-forced : goal.assign-requires-3-clause-forced
 assign-requires-3-clause-forced g c =
-    forced c.add-3.new.self c.assign-2.new.self.steps (later c.in_ok-ground.ground c.in_ok-first.first) c.in_ok-second.second 2 last (coded 10)
+    forced c.add-3.new.self all c.assign-2.new.self.steps (later c.in_ok-ground.ground c.in_ok-first.first) c.in_ok-second.second 2 last (coded 10)
     (stored c.open-store.result c.add.new.self c.add-2.new.self c.add-3.new.self c.open-store.ensures c.in_ok-ground.ensures.ok c.in_ok-first.ensures.ok c.in_ok-second.ensures.ok)
     (ap (λ t. t.steps) c.assign-2.ensures.steps ∙ ap (forced_by c.in_ok-first.first 8)
     (assigned c.in_ok-ground.ground c.in_ok-trail.trail c.assign.new.self c.decide.new.self c.decide-2.new.self (ap (λ t. t.steps) c.in_ok-trail.ensures) (ap (λ t. t.steps) c.assign.ensures.steps)
     (ap (λ t. t.steps) c.decide.ensures.steps) (ap (λ t. t.steps) c.decide-2.ensures.steps)))
     (c.in_ok-second.ensures.at ∙ ap length (c.in_ok-first.ensures.ok ∙ ap (λ s. s ++ reason ∷ []) (c.in_ok-ground.ensures.ok ∙ ap (λ s. s ++ fact ∷ []) c.open-store.ensures)))
-    refl (1, omega arith, refl) (second_false c.in_ok-ground.ground c.in_ok-first.first)
+    refl (1, omega arith, refl) (first_false (later c.in_ok-ground.ground c.in_ok-first.first) (coded 9) (coded 10) refl)
 
 pub assign-requires-2-clause-of_store : goal.assign-requires-2-clause-of_store
 assign-requires-2-clause-of_store g c = c.decide-2.ensures.stays c.add-3.new.self (c.decide.ensures.stays c.add-3.new.self c.assign.ensures.of_store)
