@@ -1,0 +1,4 @@
+pub mod BackLemmas
+pub mod GoingLemmas
+pub mod ConflictLemmas
+pub mod AnswerLemmas
