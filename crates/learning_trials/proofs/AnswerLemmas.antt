@@ -1,21 +1,21 @@
 -- That the answers of a search are right.
-use Rattle.std.proofs.Common.{◌≡◌, ◌≢◌, ◌⊎◌, ℕ, ◌<◌, ◌≤◌, Bool, true, false, cond, eqb, List, [], ◌∷◌, length, take, get_or, Option, Some, None, refl, sym, ap, ◌∙◌, subst, inl, inr, arith}
-use Rattle.std.specs.Prelude.{All, Any, Contains, slice_get, IsSome}
+use Rattle.std.proofs.Common.{◌≡◌, ◌≢◌, ℕ, Bool, true, false, cond, eqb, List, [], ◌∷◌, length, take, get_or, Option, Some, None, refl, sym, ap, ◌∙◌, subst, inl, inr, arith}
+use Rattle.std.specs.Prelude.{All, Contains, slice_get, IsSome}
 use Rattle.std.proofs.lemmas.Bool.{false≢true}
 use Rattle.std.proofs.lemmas.List.Elements.{All-cons, All-nil, All-weaker, All-contains}
-use Rattle.std.proofs.lemmas.Option.{same_Some, slice_get_within, get_or_from_slice_get, slice_get_read}
+use Rattle.std.proofs.lemmas.Option.{same_Some, slice_get_read}
 use Rattle.clause_store.specs.declared.literal.Lit.{Lit}
 use Rattle.clause_store.specs.declared.literal.ClauseRef.{ClauseRef}
 use Rattle.clause_store.specs.declared.literal.Value.{Value}
 use Rattle.clause_store.specs.declared.literal.Value.TheVariants.{Yes, No, Unset}
 use Rattle.clause_store.specs.declared.step.Step.{Step}
-use Rattle.clause_store.specs.Clause.{variable, negation, makes_true, IsTrueIn, HoldsIn, Meets, IsOver, AreOver}
+use Rattle.clause_store.specs.Clause.{variable, negation, makes_true, IsTrueIn, Meets, IsOver, AreOver}
 use Rattle.clause_store.specs.Entailment.{InClosure}
 use Rattle.clause_store.specs.Trail.{Assigned, IsTrail, IsTrailOf, IsTotal, step_of, value_by, value_of, values_of}
 use Rattle.clause_store.proofs.LiteralLemmas.{any_from, any_or_none}
 use Rattle.clause_store.proofs.TrailLemmas.{total_means}
 use Rattle.clause_store.proofs.EntailmentLemmas.{not_refuted}
-use Rattle.propagator.specs.Fixpoint.{IsFixpoint, IsQuietOn, IsConflict}
+use Rattle.propagator.specs.Fixpoint.{IsFixpoint, IsConflict}
 use Rattle.conflict_learning.specs.Analysis.{IsFalse, level_at, greatest_level}
 use Rattle.conflict_learning.specs.Refusal.{IsCore, IsDecision, CannotMeet}
 use Rattle.conflict_learning.proofs.AssignedLemmas.{here_at, step_of_before}

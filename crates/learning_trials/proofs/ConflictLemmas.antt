@@ -1,6 +1,6 @@
 -- A conflict at the level to which a search goes back for it, and the level to which it goes then.
-use Rattle.std.proofs.Common.{◌≡◌, ◌≢◌, ℕ, ◌<◌, ◌≤◌, Bool, true, false, not, cond, eqb, List, [], ◌∷◌, length, get_or, Some, refl, sym, ap, ◌∙◌, subst, inl, inr, arith}
-use Rattle.std.specs.Prelude.{All, Any, Contains, slice_get}
+use Rattle.std.proofs.Common.{◌≡◌, ◌≢◌, ℕ, ◌<◌, ◌≤◌, List, [], ◌∷◌, get_or, Some, sym, ap, ◌∙◌, subst, inl, inr, arith}
+use Rattle.std.specs.Prelude.{All, Contains, slice_get}
 use Rattle.std.proofs.lemmas.Bool.{cases_lt, cases_eq, eq-eqb, ne_eqb}
 use Rattle.std.proofs.lemmas.List.Elements.{All-cons, All-nil, All-head, All-tail, All-weaker, All-contains}
 use Rattle.std.proofs.lemmas.Option.{same_Some}
@@ -9,7 +9,7 @@ use Rattle.clause_store.specs.declared.literal.ClauseRef.{ClauseRef}
 use Rattle.clause_store.specs.declared.step.Step.{Step}
 use Rattle.clause_store.specs.Clause.{variable}
 use Rattle.clause_store.specs.Entailment.{others}
-use Rattle.clause_store.specs.Trail.{value_by, level_of, present_level, up_to}
+use Rattle.clause_store.specs.Trail.{value_by, present_level, up_to}
 use Rattle.clause_store.proofs.LiteralLemmas.{any_from, has_first, has_later}
 use Rattle.propagator.specs.Fixpoint.{IsConflict as IsFalseClause}
 use Rattle.conflict_learning.specs.Analysis.{IsFalse, IsConflict, IsAsserting, level_at, greatest_level}
@@ -35,19 +35,19 @@ greatest_below_present steps (lit ∷ rest) wrong =
     omega arith
 
 -- no literal is of a greater level than the greatest
-each_below : (steps : List Step) (lits : List Lit) → All (λ lit. level_at steps lit ≤ greatest_level steps lits) lits
+pub each_below : (steps : List Step) (lits : List Lit) → All (λ lit. level_at steps lit ≤ greatest_level steps lits) lits
 each_below steps [] = All-nil (λ lit. level_at steps lit ≤ greatest_level steps [])
 each_below steps (lit ∷ rest) =
     All-cons (λ l. level_at steps l ≤ greatest_level steps (lit ∷ rest)) lit rest (omega arith)
     (All-weaker (λ l. level_at steps l ≤ greatest_level steps rest) (λ l. level_at steps l ≤ greatest_level steps (lit ∷ rest)) (λ l low. omega arith) rest (each_below steps rest))
 
 -- and some literal is of it
-record IsOfGreatest (steps : List Step) (lits : List Lit) : Type 0 where
+pub record IsOfGreatest (steps : List Step) (lits : List Lit) : Type 0 where
   pub lit : Lit
   pub here : Contains lits lit
   pub level : level_at steps lit ≡ greatest_level steps lits
 
-greatest_there : (steps : List Step) (lits : List Lit) → 0 < greatest_level steps lits → IsOfGreatest steps lits
+pub greatest_there : (steps : List Step) (lits : List Lit) → 0 < greatest_level steps lits → IsOfGreatest steps lits
 greatest_there steps [] above = absurd (omega arith)
 greatest_there steps (lit ∷ rest) above =
     elim (cases_lt (level_at steps lit) (greatest_level steps rest)) [
@@ -60,11 +60,11 @@ greatest_there steps (lit ∷ rest) above =
 -- ---- the conflict after going back
 
 -- a false literal of a level that stays is false still, and of its level
-record IsStillFalse (old new : List Step) (lit : Lit) : Type 0 where
+pub record IsStillFalse (old new : List Step) (lit : Lit) : Type 0 where
   pub is_false : IsFalse new lit
   pub level : level_at new lit ≡ level_at old lit
 
-still_false : (level : ℕ) (steps : List Step) (lit : Lit) → IsFalse steps lit → level_at steps lit ≤ level → IsStillFalse steps (up_to level steps) lit
+pub still_false : (level : ℕ) (steps : List Step) (lit : Lit) → IsFalse steps lit → level_at steps lit ≤ level → IsStillFalse steps (up_to level steps) lit
 still_false level steps lit wrong low =
     let by = refuter steps lit wrong in
     let at : level_at steps lit ≡ by.step.level = (level_found steps lit by.step by.found).0 in

@@ -1,5 +1,5 @@
 -- How a search goes on: which decisions come first, and that its clauses mean the same.
-use Rattle.std.proofs.Common.{◌≡◌, ◌⊎◌, ℕ, zero, suc, ◌<◌, ◌≤◌, ◌+◌, Bool, List, [], ◌∷◌, ◌++◌, length, take, get_or, Option, Some, None, refl, sym, ap, ◌∙◌, subst, inl, inr, arith, append_assoc, length-append}
+use Rattle.std.proofs.Common.{◌≡◌, ◌⊎◌, ℕ, zero, suc, ◌<◌, ◌≤◌, ◌+◌, List, [], ◌∷◌, ◌++◌, length, take, Some, None, sym, ap, ◌∙◌, subst, inl, inr, arith, append_assoc, length-append}
 use Rattle.std.specs.Prelude.{All, Contains, slice_get, IsSome, Result, Ok, Err, OnOk, IfOk}
 use Rattle.std.proofs.lemmas.Bool.{cases_lt, false≢true}
 use Rattle.std.proofs.lemmas.List.{take-append-le, append-nil, get_or_append_left}
@@ -7,16 +7,16 @@ use Rattle.std.proofs.Math.Seq.{take-append_seam}
 use Rattle.std.proofs.lemmas.List.Elements.{All-head, All-tail, All-push}
 use Rattle.std.proofs.lemmas.Option.{same_Some, slice_get_within}
 use Rattle.clause_store.specs.declared.literal.Lit.{Lit}
-use Rattle.clause_store.specs.declared.literal.ClauseRef.{ClauseRef}
 use Rattle.clause_store.specs.declared.step.Step.{Step}
 use Rattle.clause_store.specs.Clause.{AreOver, HoldsIn, IsOver, Meets}
-use Rattle.clause_store.specs.Entailment.{Follows}
+use Rattle.clause_store.specs.Entailment.{AreUnits, Follows}
 use Rattle.clause_store.specs.Trail.{Assigned, IsTrail, RisesFrom, up_to, next_level, present_level}
 use Rattle.clause_store.proofs.ReasonLemmas.{slice_get-seam}
 use Rattle.clause_store.proofs.TrailLemmas.{slice_get-append}
-use Rattle.propagator.specs.Fixpoint.{Extends}
-use Rattle.learning_trials.specs.Search.{AreTrue, AreAssumedFirst, MeanTheSame, GoesOn}
+use Rattle.propagator.specs.Fixpoint.{Extends, IsFixpoint}
+use Rattle.learning_trials.specs.Search.{AddsUnits, AreSettledBelow, AreTrue, AreAssumedFirst, MeanTheSame, GoesOn}
 use Rattle.learning_trials.proofs.BackLemmas.{up_to_is_front}
+use Rattle.learning_trials.proofs.SettledLemmas.{IsLearnedOn, learned_is_unit, settled_back, settled_decided, settled_extended, settled_learned}
 
 -- ---- decisions
 
@@ -75,8 +75,24 @@ first_with_forced assumed steps (step ∷ rest) first forced =
 
 -- ---- going on
 
-pub same_clauses : (clauses : List (List Lit)) → MeanTheSame clauses clauses
+same_clauses : (clauses : List (List Lit)) → MeanTheSame clauses clauses
 same_clauses clauses values = (λ meets. meets, λ meets. meets)
+
+no_units : (clauses : List (List Lit)) → AddsUnits clauses clauses
+no_units clauses = record { units = []; added = sym (append-nil clauses); are = tt }
+
+more_units : (base units later : List (List Lit)) → AreUnits base units → AreUnits (base ++ units) later → AreUnits base (units ++ later)
+more_units base [] later are more = subst (λ clauses. AreUnits clauses later) (append-nil base) more
+more_units base (unit ∷ rest) later are more =
+    (are.0, more_units (base ++ unit ∷ []) rest later are.1 (subst (λ clauses. AreUnits clauses later) (sym (append_assoc base (unit ∷ []) rest)) more))
+
+units_go_on : (first second third : List (List Lit)) → AddsUnits first second → AddsUnits second third → AddsUnits first third
+units_go_on first second third early late =
+    record {
+      units = early.units ++ late.units;
+      added = late.added ∙ ap (λ clauses. clauses ++ late.units) early.added ∙ append_assoc first early.units late.units;
+      are = more_units first early.units late.units early.are (subst (λ clauses. AreUnits clauses late.units) early.added late.are);
+    }
 
 pub goes_on : (assumed : List Lit) (first second third : List (List Lit)) (one two three : Assigned) → GoesOn assumed first second one two → GoesOn assumed second third two three
     → GoesOn assumed first third one three
@@ -84,7 +100,9 @@ goes_on assumed first second third one two three early late =
     record {
       vars = late.vars ∙ early.vars;
       same = λ values. (λ meets. (late.same values).0 ((early.same values).0 meets), λ meets. (early.same values).1 ((late.same values).1 meets));
+      units = units_go_on first second third early.units late.units;
       first = λ is. late.first (early.first is);
+      settled = λ is. late.settled (early.settled is);
     }
 
 pub goes_on_extended : (assumed : List Lit) (clauses : List (List Lit)) (old new : Assigned) → Extends old new → GoesOn assumed clauses clauses old new
@@ -92,42 +110,55 @@ goes_on_extended assumed clauses old new is =
     record {
       vars = is.vars;
       same = same_clauses clauses;
+      units = no_units clauses;
       first = λ first. subst (AreAssumedFirst assumed) (sym is.steps) (first_with_forced assumed old.steps is.added first is.forced);
+      settled = settled_extended clauses old new is;
     }
 
-pub goes_on_back : (assumed : List Lit) (old_clauses new_clauses : List (List Lit)) (old new : Assigned) (level : ℕ) → IsTrail old → new_clauses ≡ old_clauses
-    → new ≡ record old { steps = up_to level old.steps } → GoesOn assumed old_clauses new_clauses old new
-goes_on_back assumed old_clauses new_clauses old new level is same back =
+pub goes_on_back : (assumed : List Lit) (clauses : List (List Lit)) (old new : Assigned) (level : ℕ) → IsTrail old → level ≤ present_level old.steps
+    → new ≡ record old { steps = up_to level old.steps } → present_level new.steps ≡ level → GoesOn assumed clauses clauses old new
+goes_on_back assumed clauses old new level is within back present =
     let front = up_to_is_front level 0 old.steps is.levels in
     record {
       vars = ap (λ trail. trail.vars) back;
-      same = subst (MeanTheSame old_clauses) (sym same) (same_clauses old_clauses);
+      same = same_clauses clauses;
+      units = no_units clauses;
       first = λ first.
           subst (AreAssumedFirst assumed) (sym (ap (λ trail. trail.steps) back))
           (first_of_front assumed (up_to level old.steps) front.0 (subst (AreAssumedFirst assumed) front.1 first));
+      settled = settled_back clauses old.steps new.steps level within (ap (λ trail. trail.steps) back) present;
     }
 
 -- a decision comes last
 pub goes_on_decided : (assumed : List Lit) (clauses : List (List Lit)) (old new : Assigned) (step : Step) → new ≡ record old { steps = old.steps ++ step ∷ [] } → Contains assumed step.lit ⊎ AreTrue old.steps assumed
-    → GoesOn assumed clauses clauses old new
-goes_on_decided assumed clauses old new step is why =
+    → IsFixpoint clauses old.steps → step.level ≡ present_level old.steps + 1 → GoesOn assumed clauses clauses old new
+goes_on_decided assumed clauses old new step is why fixpoint opens =
     record {
       vars = ap (λ trail. trail.vars) is;
       same = same_clauses clauses;
+      units = no_units clauses;
       first = λ first. subst (AreAssumedFirst assumed) (sym (ap (λ trail. trail.steps) is)) (first_push assumed old.steps step first (λ decided. why));
+      settled = λ settled. subst (AreSettledBelow clauses) (sym (ap (λ trail. trail.steps) is)) (settled_decided clauses old.steps step fixpoint opens settled);
     }
 
--- a clause that follows is added
-pub goes_on_learned : (assumed : List Lit) (old new : List (List Lit)) (clause : List Lit) (trail : Assigned) → Follows old clause → new ≡ old ++ clause ∷ [] → GoesOn assumed old new trail trail
-goes_on_learned assumed old new clause trail follows is =
+-- after a conflict the search goes back, and the learned clause is added
+pub goes_on_learned : (assumed : List Lit) (old new : List (List Lit)) (trail there : Assigned) (clause : List Lit) (lit : Lit) (back : ℕ) → IsLearnedOn trail clause lit back → Follows old clause
+    → AreSettledBelow old trail.steps → IsTrail there → there ≡ record trail { steps = up_to back trail.steps } → present_level there.steps ≡ back → new ≡ old ++ clause ∷ []
+    → GoesOn assumed old new trail there
+goes_on_learned assumed old new trail there clause lit back is follows settled is_trail steps present added =
+    let below = is.below in
+    let before = goes_on_back assumed old trail there back is.is_trail (omega arith) steps present in
+    let fewer = ap (λ t. t.steps) steps in
     record {
-      vars = refl;
+      vars = before.vars;
       same = λ values.
-          subst (λ clauses. (Meets values old → Meets values clauses) × (Meets values clauses → Meets values old)) (sym is) (
+          subst (λ clauses. (Meets values old → Meets values clauses) × (Meets values clauses → Meets values old)) (sym added) (
             λ meets. All-push (HoldsIn values) old clause meets (follows values meets),
             λ meets k d within. subst (HoldsIn values) (get_or_append_left old (clause ∷ []) d k within) (meets k d (omega (arith, within, length-append old (clause ∷ [])))),
           );
-      first = λ first. first;
+      units = record { units = clause ∷ []; added = added; are = (learned_is_unit old trail there clause lit back is settled is_trail fewer, tt) };
+      first = before.first;
+      settled = λ was. settled_learned old new trail there clause lit back is was fewer present added;
     }
 
 -- the clauses stay over the variables

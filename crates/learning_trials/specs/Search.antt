@@ -1,11 +1,13 @@
 -- What a search keeps on its way, and what it answers.
-use Rattle.std.specs.Prelude.{◌≡◌, ◌≢◌, ◌<◌, ◌⊎◌, ◌↔◌, ℕ, Bool, List, length, take, slice_get, All, Contains, None, Some}
+use Rattle.std.specs.Prelude.{◌≡◌, ◌≢◌, ◌<◌, ◌⊎◌, ◌↔◌, ◌++◌, ℕ, Bool, List, length, take, slice_get, All, Contains, None, Some}
 use Rattle.clause_store.specs.declared.literal.Lit.{Lit}
 use Rattle.clause_store.specs.declared.literal.Value.TheVariants.{Yes}
 use Rattle.clause_store.specs.declared.step.Step.{Step}
 use Rattle.clause_store.specs.Clause.{Meets, IsTrueIn, IsOver, IsClause}
-use Rattle.clause_store.specs.Trail.{Assigned, value_of, values_of}
+use Rattle.clause_store.specs.Entailment.{AreUnits}
+use Rattle.clause_store.specs.Trail.{Assigned, present_level, up_to, value_of, values_of}
 use Rattle.conflict_learning.specs.Refusal.{CannotMeet}
+use Rattle.propagator.specs.Fixpoint.{IsFixpoint}
 use Rattle.propagator.specs.Watched.{IsReady}
 use Rattle.learning_trials.specs.declared.search.Search.{Search}
 use Rattle.learning_trials.specs.declared.search.Answer.{Answer}
@@ -32,11 +34,25 @@ AreAssumedFirst assumed steps =
     (at : ℕ) (step : Step) → slice_get steps at ≡ Some step → step.reason ≡ None
     → Contains assumed step.lit ⊎ AreTrue (take at steps) assumed
 
--- a search went on: its clauses mean the same, and the assumed literals still come first
-pub record GoesOn (assumed : List Lit) (old_clauses new_clauses : List (List Lit)) (old new : Assigned) : Type 0 where
+-- below the present level propagation had nothing left to do
+abbrev pub AreSettledBelow : List (List Lit) → List Step → Type 0
+AreSettledBelow clauses steps =
+    (level : ℕ) → level < present_level steps → IsFixpoint clauses (up_to level steps)
+
+-- clauses were put last, each of which those before don't absorb
+pub record AddsUnits (old new : List (List Lit)) : Type 0 where
+  pub units : List (List Lit)
+  pub added : new ≡ old ++ units
+  pub are : AreUnits old units
+
+-- a search went on: its clauses mean the same, those that came are units, the assumed literals still come
+-- first, and all is still settled below
+pub record GoesOn (assumed : List Lit) (clauses more : List (List Lit)) (old new : Assigned) : Type 0 where
   pub vars : new.vars ≡ old.vars
-  pub same : MeanTheSame old_clauses new_clauses
+  pub same : MeanTheSame clauses more
+  pub units : AddsUnits clauses more
   pub first : AreAssumedFirst assumed old.steps → AreAssumedFirst assumed new.steps
+  pub settled : AreSettledBelow clauses old.steps → AreSettledBelow more new.steps
 
 -- the assignments of a trail meet the clauses, and make the assumed literals true
 pub record IsModel (clauses : List (List Lit)) (assumed : List Lit) (trail : Assigned) : Type 0 where

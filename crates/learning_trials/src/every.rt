@@ -1,5 +1,5 @@
-// The other way to an answer: all assignments are tried. An assignment is a bit pattern whose bit of
-// place `v` says whether variable `v` is true.
+// The other way to an answer: all assignments are tried. An assignment is a bit pattern whose bit
+// of place `v` says whether variable `v` is true.
 use crate::search::{Answer, Search};
 use clause_store::{ClauseRef, Lit, Store, Trail, Value, Var};
 

@@ -1,5 +1,5 @@
-//! Trials of trail, watches and learning together: a plain search by conflicts, and tests of what it
-//! answers on small sets of clauses.
+//! Trials of trail, watches and learning together: a plain search by conflicts, and tests of what
+//! it answers on small sets of clauses.
 #![tactic(auto)]
 
 #[cfg(test)]

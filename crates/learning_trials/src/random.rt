@@ -1,5 +1,6 @@
 // Clauses from codes and from random numbers.
-ghost use Rattle.std.specs.Prelude.{◌≡◌, ◌<◌, ◌≢◌, ◌^◌, ◌↔◌, [], false, length, All, IfOk, IsTrue, OnOk};
+ghost use Rattle.std.specs.Prelude.{◌≡◌, ◌≢◌, ◌<◌, ◌≤◌, ◌^◌, ◌↔◌};
+ghost use Rattle.std.specs.Prelude.{false, All, IfOk, IsTrue, OnOk};
 ghost use Rattle.clause_store.specs.Clause.{IsOver, variable};
 ghost use Rattle.learning_trials.specs.Search.{IsClauseOver};
 

@@ -1,11 +1,13 @@
-// The plainest search by conflicts: it propagates, then learns from a clause that is false, or makes
-// the next assumed literal true, or else the next variable false.
-ghost use Rattle.std.specs.Prelude.{◌≡◌, ◌<◌, ◌≤◌, ◌^◌, [], ◌∷◌, ◌++◌, List, All, length, OnOk, IfOk, IfSome};
+// The plainest search by conflicts: it propagates, then learns from a clause that is false, or
+// makes the next assumed literal true, or else the next variable false.
+ghost use Rattle.std.specs.Prelude.{◌≡◌, ◌<◌, ◌≤◌, ◌^◌, ◌∷◌, [], ◌++◌};
+ghost use Rattle.std.specs.Prelude.{List, All, OnOk, IfOk, IfSome};
 ghost use Rattle.clause_store.specs.Clause.{IsClause, IsOver};
 ghost use Rattle.clause_store.specs.Trail.{IsTrail, present_level, up_to};
 ghost use Rattle.propagator.specs.Watched.{IsReady};
 ghost use Rattle.propagator.specs.Fixpoint.{IsConflict, IsFixpoint};
-ghost use Rattle.learning_trials.specs.Search.{AreAssumedFirst, AreTrue, GoesOn, IsAnswer, IsNotTrueAt};
+ghost use Rattle.learning_trials.specs.Search.{AreAssumedFirst, AreSettledBelow, AreTrue};
+ghost use Rattle.learning_trials.specs.Search.{AddsUnits, GoesOn, IsAnswer, IsNotTrueAt};
 
 use crate::steering::{first_not_true, greatest_level, know_trail, least_unset};
 use clause_store::{Clause, ClauseRef, Lit, NoMemory, Store, Trail, Value};
@@ -32,8 +34,8 @@ pub struct Search {
 }
 
 impl Search {
-    /// No clause over the variables 1 to `vars`.
-    pub fn open(alloc: Global, vars: u32) -> Result<Search, NoMemory>
+    /// No clause over the variables 1 to `vars`, with a place for what conflicts teach.
+    pub fn open(alloc: Global, vars: u32, learned: Learned) -> Result<Search, NoMemory>
         requires { vars < 2 ^ 31 }
         ensures ready { IfOk result (λ it. IsReady it.store it.trail it.watches) }
         ensures vars { IfOk result (λ it. it.trail.vars ≡ vars) }
@@ -44,8 +46,13 @@ impl Search {
             store: Store::open(),
             trail,
             watches,
-            learned: Learned::open(),
+            learned,
         })
+    }
+
+    /// The place for what conflicts teach, for another search.
+    pub fn into_learned(self) -> Learned {
+        self.learned
     }
 
     /// Adds a clause.
@@ -61,7 +68,8 @@ impl Search {
         self.watches.attach(alloc, &self.store, &self.trail, at)
     }
 
-    /// Whether all clauses and assumed literals can be met. None: more conflicts came than are allowed.
+    /// Whether all clauses and assumed literals can be met. None: more conflicts came than are
+    /// allowed. After want of memory the search may not be used any more.
     pub fn solve(
         &mut self,
         alloc: Global,
@@ -72,7 +80,9 @@ impl Search {
         requires over { All (IsOver self.old.trail.vars) assumed.now }
         ensures ready { OnOk result (IsReady self.new.store self.new.trail self.new.watches) }
         ensures vars { OnOk result (self.new.trail.vars ≡ self.old.trail.vars) }
-        ensures answer { IfOk result (λ it. IfSome it (IsAnswer self.old.store assumed.now self.new.trail)) }
+        ensures units { OnOk result (AddsUnits self.old.store self.new.store) }
+        ensures answer { IfOk result (λ it.
+            IfSome it (IsAnswer self.old.store assumed.now self.new.trail)) }
     {
         self.go_back(0);
         let full = self.store.len().saturating_add(conflicts as usize);
@@ -93,9 +103,12 @@ impl Search {
         requires ready { IsReady self.old.store self.old.trail self.old.watches }
         requires over { All (IsOver self.old.trail.vars) assumed.now }
         requires first { AreAssumedFirst assumed.now self.old.trail.steps }
+        requires settled { AreSettledBelow self.old.store self.old.trail.steps }
         ensures ready { OnOk result (IsReady self.new.store self.new.trail self.new.watches) }
-        ensures on { OnOk result (GoesOn assumed.now self.old.store self.new.store self.old.trail self.new.trail) }
-        ensures answer { IfOk result (λ it. IfSome it (IsAnswer self.old.store assumed.now self.new.trail)) }
+        ensures on { OnOk result (
+            GoesOn assumed.now self.old.store self.new.store self.old.trail self.new.trail) }
+        ensures answer { IfOk result (λ it.
+            IfSome it (IsAnswer self.old.store assumed.now self.new.trail)) }
     {
         match propagate(&self.store, &mut self.trail, &mut self.watches) {
             Some(conflict) => self.learn_from(alloc, conflict),
@@ -103,13 +116,17 @@ impl Search {
         }
     }
 
-    /// Learns from a clause that is false. The answer is the empty core where that is so at level 0.
+    /// Learns from a clause that is false. The answer is the empty core where that is so at level
+    /// 0, and else there is more to do.
     fn learn_from(&mut self, alloc: Global, conflict: ClauseRef) -> Result<Option<Answer>, NoMemory>
         requires ready { IsReady self.old.store self.old.trail self.old.watches }
         requires conflict { IsConflict self.old.store self.old.trail.steps conflict }
+        requires settled { AreSettledBelow self.old.store self.old.trail.steps }
         ensures ready { OnOk result (IsReady self.new.store self.new.trail self.new.watches) }
-        ensures on { OnOk result ((assumed : List Lit) → GoesOn assumed self.old.store self.new.store self.old.trail self.new.trail) }
-        ensures answer { IfOk result (λ it. IfSome it (λ answer. (assumed : List Lit) → IsAnswer self.old.store assumed self.new.trail answer)) }
+        ensures on { OnOk result ((assumed : List Lit) →
+            GoesOn assumed self.old.store self.new.store self.old.trail self.new.trail) }
+        ensures answer { IfOk result (λ it. IfSome it (λ answer. (assumed : List Lit) →
+            IsAnswer self.old.store assumed self.new.trail answer)) }
     {
         know_trail(&self.trail);
         let level = greatest_level(&self.trail, self.store.lits(conflict));
@@ -131,10 +148,12 @@ impl Search {
         ensures ready { IsReady self.new.store self.new.trail self.new.watches }
         ensures store { self.new.store ≡ self.old.store }
         ensures learned { self.new.learned ≡ self.old.learned }
-        ensures steps { self.new.trail ≡ record self.old.trail { steps = up_to level self.old.trail.steps } }
+        ensures steps { self.new.trail ≡
+            record self.old.trail { steps = up_to level self.old.trail.steps } }
         ensures level { present_level self.new.trail.steps ≡ level }
         ensures trail { IsTrail self.new.trail }
-        ensures on { (assumed : List Lit) → GoesOn assumed self.old.store self.new.store self.old.trail self.new.trail }
+        ensures on { (assumed : List Lit) →
+            GoesOn assumed self.old.store self.new.store self.old.trail self.new.trail }
     {
         know_trail(&self.trail);
         self.trail.back_to(level);
@@ -149,8 +168,10 @@ impl Search {
         requires over { All (IsOver self.old.trail.vars) assumed.now }
         requires first { AreAssumedFirst assumed.now self.old.trail.steps }
         ensures ready { OnOk result (IsReady self.new.store self.new.trail self.new.watches) }
-        ensures on { OnOk result (GoesOn assumed.now self.old.store self.new.store self.old.trail self.new.trail) }
-        ensures answer { IfOk result (λ it. IfSome it (IsAnswer self.old.store assumed.now self.new.trail)) }
+        ensures on { OnOk result (
+            GoesOn assumed.now self.old.store self.new.store self.old.trail self.new.trail) }
+        ensures answer { IfOk result (λ it.
+            IfSome it (IsAnswer self.old.store assumed.now self.new.trail)) }
     {
         match first_not_true(&self.trail, assumed) {
             Some(at) => self.assume(alloc, assumed, at),
@@ -169,9 +190,12 @@ impl Search {
         requires over { All (IsOver self.old.trail.vars) assumed.now }
         requires first { AreAssumedFirst assumed.now self.old.trail.steps }
         requires next { IsNotTrueAt self.old.trail.steps assumed.now at }
+        requires fixpoint { IsFixpoint self.old.store self.old.trail.steps }
         ensures ready { OnOk result (IsReady self.new.store self.new.trail self.new.watches) }
-        ensures on { OnOk result (GoesOn assumed.now self.old.store self.new.store self.old.trail self.new.trail) }
-        ensures answer { IfOk result (λ it. IfSome it (IsAnswer self.old.store assumed.now self.new.trail)) }
+        ensures on { OnOk result (
+            GoesOn assumed.now self.old.store self.new.store self.old.trail self.new.trail) }
+        ensures answer { IfOk result (λ it.
+            IfSome it (IsAnswer self.old.store assumed.now self.new.trail)) }
     {
         let lit = assumed[at];
         if let Value::Unset = self.trail.value(lit) {
@@ -188,7 +212,6 @@ impl Search {
         requires ready { IsReady self.old.store self.old.trail self.old.watches }
         requires fixpoint { IsFixpoint self.old.store self.old.trail.steps }
         requires over { All (IsOver self.old.trail.vars) assumed.now }
-        requires first { AreAssumedFirst assumed.now self.old.trail.steps }
         requires assumed { AreTrue self.old.trail.steps assumed.now }
         ensures ready { IsReady self.new.store self.new.trail self.new.watches }
         ensures on { GoesOn assumed.now self.old.store self.new.store self.old.trail self.new.trail }

@@ -1,5 +1,5 @@
-// Small sets of clauses whose answers are known, and random ones whose answers are compared with what
-// all assignments say. Literal 2 says that variable 1 is true, literal 3 that it is false, and so on.
+// Small sets of clauses whose answers are known, and random ones whose answers are compared with
+// what all assignments say. Literal 2 says that variable 1 is true, literal 3 that it is false.
 ghost use Rattle.std.specs.Prelude.{◌≡◌, ◌<◌, ◌≤◌, ◌^◌, All, IfOk, OnOk};
 ghost use Rattle.propagator.specs.Watched.{IsReady};
 ghost use Rattle.learning_trials.specs.Search.{IsReadyOver};
@@ -9,6 +9,7 @@ use crate::every::is_right;
 use crate::random::{Draws, clause_of, lits_of, random_clause, random_lits};
 use crate::search::{Answer, Search};
 use clause_store::{Lit, NoMemory};
+use conflict_learning::Learned;
 use std::alloc::Global;
 use std::test::Fail;
 
@@ -124,7 +125,7 @@ fn search_of(alloc: Global, case: &Case) -> Result<Search, NoMemory>
     ensures { IfOk result (IsReadyOver case.now.vars) }
 {
     let vars = case.vars as u32;
-    let mut search = Search::open(alloc, vars)?;
+    let mut search = Search::open(alloc, vars, Learned::open())?;
     for codes in case.clauses {
         let clause = clause_of(alloc, vars, codes)?;
         search.add(alloc, clause.as_slice())?;
@@ -185,19 +186,19 @@ fn worked_clauses_get_their_answers(rt: HostRuntime) -> Result<(), Fail> {
     Ok(())
 }
 
-/// A search over so many random clauses.
+/// A search over random clauses, of which there are 4.3 for each variable.
 fn random_search(
     alloc: Global,
     vars: u32,
-    count: u32,
+    learned: Learned,
     draws: &mut Draws,
 ) -> Result<Search, NoMemory>
     requires some { 0 < vars }
-    requires few { vars < 2 ^ 30 }
+    requires few { vars < 2 ^ 10 }
     ensures { IfOk result (IsReadyOver vars) }
 {
-    let mut search = Search::open(alloc, vars)?;
-    'clauses: for _ in 0..count {
+    let mut search = Search::open(alloc, vars, learned)?;
+    'clauses: for _ in 0..vars * 43 / 10 {
         let clause = random_clause(alloc, vars, draws)?;
         search.add(alloc, clause.as_slice())?;
     }
@@ -222,33 +223,49 @@ fn is_answered(
     }
 }
 
-/// How many clauses a search over random ones learns, with 0 to 3 assumed literals in turn. None: an
-/// answer was wrong.
-fn learned_from(alloc: Global, vars: u32, draws: &mut Draws) -> Result<Option<usize>, NoMemory>
+/// What came of one random set of clauses.
+#[derive(Drop)]
+struct Round {
+    right: bool,
+    conflicts: usize,
+    learned: Learned,
+}
+
+/// Solves random clauses with 0 to 3 assumed literals in turn.
+fn round_of(
+    alloc: Global,
+    vars: u32,
+    learned: Learned,
+    draws: &mut Draws,
+) -> Result<Round, NoMemory>
     requires some { 0 < vars }
     requires few { vars < 2 ^ 10 }
 {
-    let mut search = random_search(alloc, vars, vars * 43 / 10, draws)?;
+    let mut search = random_search(alloc, vars, learned, draws)?;
     let count = search.store.len();
+    let mut right = true;
     'sizes: for size in 0..4u32 {
         let assumed = random_lits(alloc, vars, size, draws)?;
-        if !is_answered(alloc, &mut search, count, assumed.as_slice())? {
-            return Ok(None);
-        }
+        right &= is_answered(alloc, &mut search, count, assumed.as_slice())?;
     }
-    Ok(Some(search.store.len().saturating_sub(count)))
+    Ok(Round {
+        right,
+        conflicts: search.store.len().saturating_sub(count),
+        learned: search.into_learned(),
+    })
 }
 
 #[test]
 fn random_clauses_get_the_answer_of_all_assignments(rt: HostRuntime) -> Result<(), Fail> {
     let mut draws = Draws::of(1);
-    let mut learned: usize = 0;
+    let mut learned = Learned::open();
+    let mut conflicts: usize = 0;
     for round in 0..300u32 {
-        match learned_from(rt.alloc(), 6 + round % 3, &mut draws)? {
-            None => assert!(rt; false, "{round}"),
-            Some(count) => learned = learned.saturating_add(count),
-        }
+        let done = round_of(rt.alloc(), 6 + round % 3, learned, &mut draws)?;
+        assert!(rt; done.right, "{round}");
+        conflicts = conflicts.saturating_add(done.conflicts);
+        learned = done.learned;
     }
-    assert!(rt; learned > 400);
+    assert!(rt; conflicts > 400);
     Ok(())
 }

@@ -1,4 +1,4 @@
-use Rattle.std.proofs.Common.{◌≡◌, ◌≢◌, ℕ, List, get_or, inl, sym, subst, ◌∙◌}
+use Rattle.std.proofs.Common.{◌≢◌, ℕ, List, get_or, inl, refl, sym, subst, ◌∙◌}
 use Rattle.std.proofs.lemmas.List.Elements.{Contains-get_or}
 use Rattle.std.proofs.lemmas.Option.{get_or_from_slice_get}
 use Rattle.clause_store.specs.declared.literal.Lit.{Lit}
@@ -20,6 +20,7 @@ pub returns-in-Unset-clause-on : goal.returns-in-Unset-clause-on
 returns-in-Unset-clause-on c =
     goes_on_decided c.args.assumed.now c.args.self.now.store c.args.self.now.trail c.decide.new.self _ c.decide.ensures.steps
     (inl (Contains-get_or c.args.assumed.now c.args.at (record { 0 = 0 }) c.requires.next.within))
+    c.requires.fixpoint refl
 
 -- the assumed literal that was read isn't true
 not_true : (steps : List Step) (assumed : List Lit) (at : ℕ) (d : Lit) → IsNotTrueAt steps assumed at → value_of steps (get_or assumed at d) ≢ Yes

@@ -1,4 +1,4 @@
-use Rattle.std.proofs.Common.{inr}
+use Rattle.std.proofs.Common.{inr, refl}
 use Rattle.propagator.proofs.WatchedLemmas.{ready_with_more}
 use Rattle.learning_trials.proofs.GoingLemmas.{goes_on_decided}
 use Rattle.learning_trials.proofs.AnswerLemmas.{is_model}
@@ -11,7 +11,7 @@ returns-in-Some-clause-ready c =
 
 pub returns-in-Some-clause-on : goal.returns-in-Some-clause-on
 returns-in-Some-clause-on c =
-    goes_on_decided c.args.assumed.now c.args.self.now.store c.args.self.now.trail c.decide.new.self _ c.decide.ensures.steps (inr c.requires.assumed)
+    goes_on_decided c.args.assumed.now c.args.self.now.store c.args.self.now.trail c.decide.new.self _ c.decide.ensures.steps (inr c.requires.assumed) c.requires.fixpoint refl
 
 pub returns-in-None-clause-answer : goal.returns-in-None-clause-answer
 returns-in-None-clause-answer c =

@@ -1,4 +1,4 @@
-use Rattle.std.proofs.Common.{◌≡◌, ◌<◌, ◌≤◌, arith, sym, ◌∙◌, ap, subst}
+use Rattle.std.proofs.Common.{◌≡◌, ◌<◌, [], ◌∷◌, ◌++◌, arith, sym, ◌∙◌, ap, subst}
 use Rattle.clause_store.specs.Entailment.{Follows}
 use Rattle.clause_store.specs.Trail.{present_level}
 use Rattle.conflict_learning.specs.Analysis.{IsConflict}
@@ -6,6 +6,7 @@ use Rattle.propagator.proofs.WatchedLemmas.{ready_with_clause}
 use Rattle.learning_trials.specs.Search.{IsUnmet}
 use Rattle.learning_trials.proofs.GoingLemmas.{goes_on, goes_on_learned, over_learned, over_moved}
 use Rattle.learning_trials.proofs.ConflictLemmas.{level_within, conflict_there, back_below}
+use Rattle.learning_trials.proofs.SettledLemmas.{IsLearnedOn}
 use Rattle.learning_trials.proofs.AnswerLemmas.{none_met}
 use Rattle.learning_trials.proofs.search.Search.learn_from.Goals as goal
 
@@ -49,11 +50,25 @@ returns-clause-ready c =
 
 pub returns-clause-on : goal.returns-clause-on
 returns-clause-on c assumed =
+    let above : 0 < present_level c.go_back.new.self.trail.steps = omega (arith, c.go_back.ensures.level) in
+    let clause = c.analyse.new.learned.clause in
+    let lit = c.analyse.new.learned.asserting in
+    let back = c.analyse.new.learned.back in
+    let moved : c.as_slice.result.now ≡ clause = c.as_slice.ensures ∙ ap (λ learned. learned.clause) c.go_back-2.ensures.learned in
+    let learned : IsLearnedOn c.go_back.new.self.trail clause lit back =
+    record {
+      is_trail = c.go_back.ensures.trail;
+      is_false = c.in_ok-analyse.ensures.is_false;
+      once = c.in_ok-analyse.ensures.once;
+      asserting = c.in_ok-analyse.ensures.asserting;
+      level = c.in_ok-analyse.ensures.back;
+      below = back_below c.go_back.new.self.trail.steps clause lit back c.in_ok-analyse.ensures.asserting c.in_ok-analyse.ensures.back above;
+    } in
     goes_on assumed c.args.self.now.store c.go_back.new.self.store c.add.new.self c.args.self.now.trail c.go_back.new.self.trail c.go_back-2.new.self.trail
     (c.go_back.ensures.on assumed)
-    (goes_on assumed c.go_back.new.self.store c.go_back-2.new.self.store c.add.new.self c.go_back.new.self.trail c.go_back-2.new.self.trail c.go_back-2.new.self.trail
-    (c.go_back-2.ensures.on assumed)
-    (goes_on_learned assumed c.go_back-2.new.self.store c.add.new.self c.as_slice.result.now c.go_back-2.new.self.trail
-    (subst (λ clauses. Follows clauses c.as_slice.result.now) (sym c.go_back-2.ensures.store)
-    (subst (Follows c.go_back.new.self.store) (sym (c.as_slice.ensures ∙ ap (λ learned. learned.clause) c.go_back-2.ensures.learned)) c.in_ok-analyse.ensures.follows))
-    c.in_ok-at.ensures.ok))
+    (goes_on_learned assumed c.go_back.new.self.store c.add.new.self c.go_back.new.self.trail c.go_back-2.new.self.trail c.as_slice.result.now lit back
+    (subst (λ lits. IsLearnedOn c.go_back.new.self.trail lits lit back) (sym moved) learned)
+    (subst (Follows c.go_back.new.self.store) (sym moved) c.in_ok-analyse.ensures.follows)
+    ((c.go_back.ensures.on assumed).settled c.requires.settled)
+    c.go_back-2.ensures.trail c.go_back-2.ensures.steps c.go_back-2.ensures.level
+    (c.in_ok-at.ensures.ok ∙ ap (λ clauses. clauses ++ c.as_slice.result.now ∷ []) c.go_back-2.ensures.store))

@@ -16,3 +16,7 @@ returns-in-None-clause-on c =
     on_ok_then c.choose.result c.choose.ensures.on
     (goes_on c.args.assumed.now c.args.self.now.store c.args.self.now.store c.choose.new.self.store c.args.self.now.trail c.propagate.new.trail c.choose.new.self.trail
     (goes_on_extended c.args.assumed.now c.args.self.now.store c.args.self.now.trail c.propagate.new.trail c.propagate.ensures.extends))
+
+pub learn_from-requires-clause-settled : goal.learn_from-requires-clause-settled
+learn_from-requires-clause-settled c =
+    (goes_on_extended c.args.assumed.now c.args.self.now.store c.args.self.now.trail c.propagate.new.trail c.propagate.ensures.extends).settled c.requires.settled
