@@ -2,8 +2,9 @@
 use Rattle.std.proofs.Common.{◌≡◌, ◌≢◌, ℕ, Bool, true, false, cond, eqb, List, [], ◌∷◌, length, take, get_or, Option, Some, None, refl, sym, ap, ◌∙◌, subst, inl, inr, arith}
 use Rattle.std.specs.Prelude.{All, Contains, slice_get, IsSome}
 use Rattle.std.proofs.lemmas.Bool.{false≢true}
+use Rattle.std.proofs.Math.Seq.{take-length}
 use Rattle.std.proofs.lemmas.List.Elements.{All-cons, All-nil, All-weaker, All-contains}
-use Rattle.std.proofs.lemmas.Option.{same_Some, slice_get_read}
+use Rattle.std.proofs.lemmas.Option.{slice_get_read}
 use Rattle.clause_store.specs.declared.literal.Lit.{Lit}
 use Rattle.clause_store.specs.declared.literal.ClauseRef.{ClauseRef}
 use Rattle.clause_store.specs.declared.literal.Value.{Value}
@@ -11,15 +12,17 @@ use Rattle.clause_store.specs.declared.literal.Value.TheVariants.{Yes, No, Unset
 use Rattle.clause_store.specs.declared.step.Step.{Step}
 use Rattle.clause_store.specs.Clause.{variable, negation, makes_true, IsTrueIn, Meets, IsOver, AreOver}
 use Rattle.clause_store.specs.Entailment.{InClosure}
+use Rattle.clause_store.specs.Standing.{IsFalse, IsConflict}
 use Rattle.clause_store.specs.Trail.{Assigned, IsTrail, IsTrailOf, IsTotal, step_of, value_by, value_of, values_of}
 use Rattle.clause_store.proofs.LiteralLemmas.{any_from, any_or_none}
 use Rattle.clause_store.proofs.TrailLemmas.{total_means}
 use Rattle.clause_store.proofs.EntailmentLemmas.{not_refuted}
-use Rattle.propagator.specs.Fixpoint.{IsFixpoint, IsConflict}
-use Rattle.conflict_learning.specs.Analysis.{IsFalse, level_at, greatest_level}
+use Rattle.propagator.specs.Fixpoint.{IsFixpoint}
+use Rattle.conflict_learning.specs.Analysis.{level_at, greatest_level}
 use Rattle.conflict_learning.specs.Refusal.{IsCore, IsDecision, CannotMeet}
-use Rattle.conflict_learning.proofs.AssignedLemmas.{here_at, step_of_before}
-use Rattle.conflict_learning.proofs.RefusalLemmas.{ground_closure}
+use Rattle.conflict_learning.proofs.AssignedLemmas.{here_at, level_found, refuter, step_of_before}
+use Rattle.conflict_learning.proofs.GivenLemmas.{ground_known}
+use Rattle.conflict_learning.proofs.LearnedLemmas.{conflict_false}
 use Rattle.learning_trials.specs.Search.{AreTrue, AreAssumedFirst, MeanTheSame, IsModel, IsUnmet, IsAnswer}
 use Rattle.learning_trials.specs.declared.search.Answer.{Answer}
 use Rattle.learning_trials.specs.declared.search.Answer.TheVariants.{Model, Core}
@@ -65,6 +68,16 @@ all_ground : (steps : List Step) (lits : List Lit) → greatest_level steps lits
 all_ground steps [] level = All-nil (λ lit. level_at steps lit ≡ 0)
 all_ground steps (lit ∷ rest) level = All-cons (λ l. level_at steps l ≡ 0) lit rest (omega arith) (all_ground steps rest (omega arith))
 
+-- what is false at level 0 is refuted with nothing decided
+ground_closure : (clauses : List (List Lit)) (trail : Assigned) (lit : Lit) → IsTrail trail → IsTrailOf trail.steps clauses → IsFalse trail.steps lit → level_at trail.steps lit ≡ 0
+    → InClosure clauses [] (negation lit)
+ground_closure clauses trail lit is of wrong level known has closed =
+    let by = refuter trail.steps lit wrong in
+    subst (Contains known) by.negates
+    (All-contains (λ step. step.level ≡ 0 → Contains known step.lit) trail.steps by.step
+    (subst (All (λ step. step.level ≡ 0 → Contains known step.lit)) (take-length trail.steps) (ground_known clauses trail known is of closed (length trail.steps) (omega arith)))
+    by.here (sym (level_found trail.steps lit by.step by.found).0 ∙ level))
+
 -- where a clause is false at level 0, the clauses can't be met
 pub none_met : (clauses : List (List Lit)) (trail : Assigned) (assumed : List Lit) (at : ClauseRef) (lits : List Lit) → IsTrail trail → IsTrailOf trail.steps clauses → IsConflict clauses trail.steps at
     → slice_get clauses at.0 ≡ Some lits → greatest_level trail.steps lits ≡ 0 → IsUnmet clauses assumed []
@@ -78,7 +91,7 @@ none_met clauses trail assumed at lits is of conflict named level =
     }
   where
     wrong : All (IsFalse trail.steps) lits
-    wrong = subst (All (IsFalse trail.steps)) (same_Some conflict.clause lits (sym conflict.named ∙ named)) conflict.lits
+    wrong = conflict_false clauses trail.steps at lits conflict named
 
 -- what was true is true
 true_later : (n : ℕ) (steps : List Step) (lit : Lit) → value_of (take n steps) lit ≡ Yes → value_of steps lit ≡ Yes

@@ -1,15 +1,17 @@
 -- What going back leaves: the front of the trail, with all that was assigned at its levels.
-use Rattle.std.proofs.Common.{◌≡◌, ℕ, ◌<◌, ◌≤◌, Bool, true, false, cond, List, [], ◌∷◌, ◌++◌, Option, Some, None, refl, sym, ap, ◌∙◌, subst, inl, inr, arith}
-use Rattle.std.specs.Prelude.{◌==◌, All, find, filter, nat_le}
-use Rattle.std.proofs.lemmas.Bool.{cases_lt, false≢true, le-leb, lt-leb}
-use Rattle.std.proofs.lemmas.List.Elements.{All-cons, All-nil, All-head, All-tail, All-weaker, filter_passes}
+use Rattle.std.proofs.Common.{◌≡◌, ℕ, ◌<◌, ◌≤◌, Bool, true, false, cond, List, [], ◌∷◌, ◌++◌, Option, Some, None, refl, sym, ap, ◌∙◌, inl, inr, arith}
+use Rattle.std.specs.Prelude.{◌==◌, All, IsSomeAnd, find, filter, nat_le, unwrap_or}
+use Rattle.std.proofs.lemmas.Bool.{cases_lt, le-leb, lt-leb}
+use Rattle.std.proofs.lemmas.List.Elements.{All-cons, All-nil, All-head, All-tail, All-weaker}
 use Rattle.std.proofs.lemmas.Option.{same_Some}
 use Rattle.clause_store.specs.declared.literal.Lit.{Lit}
 use Rattle.clause_store.specs.declared.literal.Value.TheVariants.{Unset}
 use Rattle.clause_store.specs.declared.literal.ClauseRef.{ClauseRef}
 use Rattle.clause_store.specs.declared.step.Step.{Step}
 use Rattle.clause_store.specs.Clause.{variable}
-use Rattle.clause_store.specs.Trail.{step_of, value_by, value_of, next_level, RisesFrom, up_to}
+use Rattle.clause_store.specs.Trail.{Assigned, IsTrail, step_of, level_of, value_of, next_level, RisesFrom, up_to}
+use Rattle.clause_store.proofs.BackLemmas.{values_after_back}
+use Rattle.conflict_learning.specs.Analysis.{level_at}
 
 next_above : (level : ℕ) (reason : Option ClauseRef) → level ≤ next_level level reason
 next_above level None = omega arith
@@ -72,37 +74,11 @@ up_to_twice low high (step ∷ rest) below =
           rw (le-leb step.level high lower) (ap (λ later. cond (nat_le step.level low) (step ∷ later) later) (up_to_twice low high rest below))
     ]
 
--- what is found after going back was found before, and is of such a level
-find_stays : {X : Type 0} (p : X → Bool) (xs ys : List X) (x : X) → find p xs ≡ Some x → find p (xs ++ ys) ≡ Some x
-find_stays p [] ys x is = absurd (cc)
-find_stays p (y ∷ xs) ys x is = go (p y) is (find_stays p xs ys x)
-  where
-    go : (b : Bool) → cond b (Some y) (find p xs) ≡ Some x → (find p xs ≡ Some x → find p (xs ++ ys) ≡ Some x) → cond b (Some y) (find p (xs ++ ys)) ≡ Some x
-    go true found rest = found
-    go false later rest = rest later
-
-find_holds : {X : Type 0} (P : X → Type 0) (p : X → Bool) (xs : List X) (x : X) → All P xs → find p xs ≡ Some x → P x
-find_holds P p [] x all is = absurd (cc)
-find_holds P p (y ∷ xs) x all is = go (p y) is (find_holds P p xs x (All-tail P y xs all))
-  where
-    go : (b : Bool) → cond b (Some y) (find p xs) ≡ Some x → (find p xs ≡ Some x → P x) → P x
-    go true found rest = subst P (same_Some y x found) (All-head P y xs all)
-    go false later rest = rest later
-
 -- what was assigned at a higher level is unset again
-pub unset_above : (level : ℕ) (steps : List Step) (lit : Lit) (step : Step) → RisesFrom 0 steps → step_of steps (variable lit) ≡ Some step → level < step.level → value_of (up_to level steps) lit ≡ Unset
-unset_above level steps lit step rises found above =
-    ap (λ o. value_by o lit) (go (step_of (up_to level steps) (variable lit)) refl)
+pub unset_above : (trail : Assigned) (level : ℕ) (lit : Lit) → IsTrail trail → level < level_at trail.steps lit → value_of (up_to level trail.steps) lit ≡ Unset
+unset_above trail level lit is above =
+    (values_after_back trail level lit is).unset (go (level_of trail.steps (variable lit)) above)
   where
-    front : (rest : List Step) × (steps ≡ up_to level steps ++ rest)
-    front = up_to_is_front level 0 steps rises
-
-    go : (o : Option Step) → step_of (up_to level steps) (variable lit) ≡ o → o ≡ None
-    go None is = refl
-    go (Some other) is =
-        let before : step_of steps (variable lit) ≡ Some other =
-        subst (λ s. step_of s (variable lit) ≡ Some other) (sym front.1) (find_stays (λ s. variable s.lit == variable lit) (up_to level steps) front.0 other is) in
-        let same : step ≡ other = same_Some step other (sym found ∙ before) in
-        let low : nat_le other.level level ≡ true =
-        find_holds (λ s. nat_le s.level level ≡ true) (λ s. variable s.lit == variable lit) (up_to level steps) other (filter_passes (λ s. nat_le s.level level) steps) is in
-        absurd (false≢true (sym (lt-leb other.level level (subst (λ s. level < s.level) same above)) ∙ low))
+    go : (o : Option ℕ) → level < unwrap_or o 0 → ¬ IsSomeAnd o (λ at. at ≤ level)
+    go None higher by = by
+    go (Some at) higher by = absurd (omega (arith, higher, by))

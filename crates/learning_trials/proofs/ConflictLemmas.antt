@@ -1,19 +1,19 @@
--- A conflict at the level to which a search goes back for it, and the level to which it goes then.
-use Rattle.std.proofs.Common.{◌≡◌, ◌≢◌, ℕ, ◌<◌, ◌≤◌, List, [], ◌∷◌, get_or, Some, sym, ap, ◌∙◌, subst, inl, inr, arith}
-use Rattle.std.specs.Prelude.{All, Contains, slice_get}
-use Rattle.std.proofs.lemmas.Bool.{cases_lt, cases_eq, eq-eqb, ne_eqb}
+-- A conflict at the level to which a search goes back for it.
+use Rattle.std.proofs.Common.{◌≡◌, ℕ, ◌<◌, ◌≤◌, List, [], ◌∷◌, get_or, Some, sym, ap, ◌∙◌, subst, inl, inr, arith}
+use Rattle.std.specs.Prelude.{All, Any, Contains, slice_get}
+use Rattle.std.proofs.lemmas.Bool.{cases_lt}
 use Rattle.std.proofs.lemmas.List.Elements.{All-cons, All-nil, All-head, All-tail, All-weaker, All-contains}
 use Rattle.std.proofs.lemmas.Option.{same_Some}
 use Rattle.clause_store.specs.declared.literal.Lit.{Lit}
 use Rattle.clause_store.specs.declared.literal.ClauseRef.{ClauseRef}
 use Rattle.clause_store.specs.declared.step.Step.{Step}
 use Rattle.clause_store.specs.Clause.{variable}
-use Rattle.clause_store.specs.Entailment.{others}
+use Rattle.clause_store.specs.Standing.{IsFalse, IsConflict}
 use Rattle.clause_store.specs.Trail.{value_by, present_level, up_to}
 use Rattle.clause_store.proofs.LiteralLemmas.{any_from, has_first, has_later}
-use Rattle.propagator.specs.Fixpoint.{IsConflict as IsFalseClause}
-use Rattle.conflict_learning.specs.Analysis.{IsFalse, IsConflict, IsAsserting, level_at, greatest_level}
+use Rattle.conflict_learning.specs.Analysis.{HasPresent, level_at, greatest_level}
 use Rattle.conflict_learning.proofs.AssignedLemmas.{refuter, level_found, below_present}
+use Rattle.conflict_learning.proofs.LearnedLemmas.{conflict_false}
 use Rattle.learning_trials.proofs.BackLemmas.{step_of_up_to}
 
 -- ---- levels
@@ -74,52 +74,36 @@ still_false level steps lit wrong low =
       level = (level_found (up_to level steps) lit by.step kept).0 ∙ sym at;
     }
 
--- a false clause, back at the greatest level of its literals
-pub conflict_there : (clauses : List (List Lit)) (old new : List Step) (at : ClauseRef) (lits : List Lit) (level : ℕ) → IsFalseClause clauses old at → slice_get clauses at.0 ≡ Some lits
-    → level ≡ greatest_level old lits → 0 < level → new ≡ up_to level old → present_level new ≡ level → IsConflict clauses new at
-conflict_there clauses old new at lits level is named greatest above back present =
-    subst (λ steps. IsConflict clauses steps at) (sym back)
-    (record {
-      clause = lits;
-      named = named;
-      is_false = λ k d within. (still k d within).is_false;
-      present = any_from (λ lit. level_at (up_to level old) lit ≡ present_level (up_to level old)) lits one.lit one.here
-          ((All-contains (IsStillFalse old (up_to level old)) lits one.lit still one.here).level ∙ one.level ∙ sym greatest ∙ sym present ∙ ap present_level back);
-    })
-  where
-    wrong : All (IsFalse old) lits
-    wrong = subst (All (IsFalse old)) (same_Some is.clause lits (sym is.named ∙ named)) is.lits
+-- a false clause is a conflict of the present level
+pub record IsPresentConflict (clauses : List (List Lit)) (steps : List Step) (at : ClauseRef) : Type 0 where
+  pub conflict : IsConflict clauses steps at
+  pub present : HasPresent clauses steps at
 
+-- so it is, back at the greatest level of its literals
+pub conflict_there : (clauses there : List (List Lit)) (old new : List Step) (at : ClauseRef) (lits : List Lit) (level : ℕ) → IsConflict clauses old at → slice_get clauses at.0 ≡ Some lits
+    → level ≡ greatest_level old lits → 0 < level → there ≡ clauses → new ≡ up_to level old → present_level new ≡ level → IsPresentConflict there new at
+conflict_there clauses there old new at lits level is named greatest above same back present =
+    subst (λ all. IsPresentConflict all new at) (sym same)
+    (subst (λ steps. IsPresentConflict clauses steps at) (sym back)
+    (record {
+      conflict = record { clause = lits; named = named; is_false = λ k d within. (still k d within).is_false };
+      present = λ clause here.
+          subst (Any (λ lit. level_at (up_to level old) lit ≡ present_level (up_to level old))) (same_Some lits clause (sym named ∙ here))
+          (any_from (λ lit. level_at (up_to level old) lit ≡ present_level (up_to level old)) lits one.lit one.here
+          ((All-contains (IsStillFalse old (up_to level old)) lits one.lit still one.here).level ∙ one.level ∙ sym greatest ∙ sym present ∙ ap present_level back));
+    }))
+  where
     still : All (IsStillFalse old (up_to level old)) lits
     still k d within =
         let low : level_at old (get_or lits k d) ≤ greatest_level old lits = each_below old lits k d within in
-        still_false level old (get_or lits k d) (wrong k d within) (omega arith)
+        still_false level old (get_or lits k d) (conflict_false clauses old at lits is named k d within) (omega arith)
 
     one : IsOfGreatest old lits
     one = greatest_there old lits (omega arith)
 
 -- the clause of a conflict is of the present level at most
-pub level_within : (clauses : List (List Lit)) (steps : List Step) (at : ClauseRef) (lits : List Lit) (level : ℕ) → IsFalseClause clauses steps at → slice_get clauses at.0 ≡ Some lits
+pub level_within : (clauses : List (List Lit)) (steps : List Step) (at : ClauseRef) (lits : List Lit) (level : ℕ) → IsConflict clauses steps at → slice_get clauses at.0 ≡ Some lits
     → level ≡ greatest_level steps lits → level ≤ present_level steps
 level_within clauses steps at lits level is named greatest =
-    let low = greatest_below_present steps lits (subst (All (IsFalse steps)) (same_Some is.clause lits (sym is.named ∙ named)) is.lits) in
+    let low = greatest_below_present steps lits (conflict_false clauses steps at lits is named) in
     omega arith
-
--- ---- the level after learning
-
-others_below : (steps : List Step) (clause : List Lit) (lit : Lit) (bound : ℕ) → 0 < bound → All (λ other. other ≢ lit → level_at steps other < bound) clause
-    → greatest_level steps (others clause lit) < bound
-others_below steps [] lit bound above below = above
-others_below steps (first ∷ rest) lit bound above below =
-    let later : greatest_level steps (others rest lit) < bound = others_below steps rest lit bound above (All-tail (λ other. other ≢ lit → level_at steps other < bound) first rest below) in
-    elim (cases_eq first.0 lit.0) [
-      | inl same ↦ rw (eq-eqb first.0 lit.0 same) later
-      | inr differ ↦
-          let low : level_at steps first < bound = All-head (λ other. other ≢ lit → level_at steps other < bound) first rest below (λ e. differ (ap (λ l. l.0) e)) in
-          rw (ne_eqb first.0 lit.0 differ) (omega arith)
-    ]
-
--- the level to which a learned clause goes back is below the present one
-pub back_below : (steps : List Step) (clause : List Lit) (lit : Lit) (back : ℕ) → IsAsserting steps clause lit → back ≡ greatest_level steps (others clause lit) → 0 < present_level steps → back < present_level steps
-back_below steps clause lit back asserting is above =
-    let low = others_below steps clause lit (present_level steps) above asserting.others in omega arith

@@ -1,26 +1,27 @@
 -- Where propagation had nothing left to do at the levels below, a learned clause is a unit at the level to
 -- which it goes back, so the clauses before don't absorb it.
-use Rattle.std.proofs.Common.{◌≡◌, ◌≢◌, ℕ, ◌+◌, ◌<◌, ◌≤◌, max, Bool, true, false, not, cond, List, [], ◌∷◌, ◌++◌, get_or, sym, ap, ◌∙◌, subst, inl, inr, arith}
-use Rattle.std.specs.Prelude.{◌==◌, All, Contains, filter, nat_le, unwrap_or}
-use Rattle.std.proofs.lemmas.Bool.{cases_lt, ne_eqb, eq-eqb, not_from_false, not_from_true, false≢true}
+use Rattle.std.proofs.Common.{◌≡◌, ◌≢◌, ℕ, ◌+◌, ◌<◌, ◌≤◌, max, not, List, [], ◌∷◌, ◌++◌, sym, ap, ◌∙◌, subst, inl, inr, arith}
+use Rattle.std.specs.Prelude.{◌==◌, All, Contains, nat_le, unwrap_or}
+use Rattle.std.proofs.lemmas.Bool.{cases_lt, eq-eqb, not_from_true, false≢true}
 use Rattle.std.proofs.lemmas.List.{append-nil}
-use Rattle.std.proofs.lemmas.List.Elements.{All-cons, All-contains, All-contains_itself, All-nil, All-push, All-weaker, filter-append}
+use Rattle.std.proofs.lemmas.List.Elements.{All-contains, All-contains_itself, All-filter, All-push, All-weaker, filter-append}
 use Rattle.clause_store.specs.declared.literal.Lit.{Lit}
 use Rattle.clause_store.specs.declared.literal.Value.TheVariants.{No, Unset}
 use Rattle.clause_store.specs.declared.step.Step.{Step}
 use Rattle.clause_store.specs.Clause.{HasNoVariableTwice}
 use Rattle.clause_store.specs.Entailment.{IsUnit, others}
+use Rattle.clause_store.specs.Standing.{IsFalse, IsUnitOn}
 use Rattle.clause_store.specs.Trail.{Assigned, IsTrail, present_level, up_to, value_of}
-use Rattle.clause_store.proofs.LiteralLemmas.{cases_lit, has_first, has_kept, has_later, kept_passes, lit_of_code}
+use Rattle.clause_store.proofs.LiteralLemmas.{cases_lit, kept_passes}
 use Rattle.clause_store.proofs.ReasonLemmas.{up_to_all, up_to_front}
-use Rattle.propagator.specs.Fixpoint.{Extends, IsFixpoint, IsQuietOn, IsUnitOn}
+use Rattle.propagator.specs.Fixpoint.{Extends, IsFixpoint, IsQuietOn}
 use Rattle.propagator.proofs.ExtendLemmas.{same_level}
 use Rattle.propagator.proofs.ClosureLemmas.{fixpoint_absorbs_no_unit}
-use Rattle.conflict_learning.specs.Analysis.{IsFalse, IsAsserting, level_at, greatest_level}
-use Rattle.conflict_learning.proofs.AssignedLemmas.{refuter, level_found}
+use Rattle.conflict_learning.specs.Analysis.{IsAsserting, level_at, greatest_level}
+use Rattle.conflict_learning.proofs.UnitLemmas.{learned_is_a_unit}
 use Rattle.learning_trials.specs.Search.{AreSettledBelow}
 use Rattle.learning_trials.proofs.BackLemmas.{none_up_to, up_to_twice, unset_above}
-use Rattle.learning_trials.proofs.ConflictLemmas.{IsOfGreatest, each_below, greatest_there, still_false}
+use Rattle.learning_trials.proofs.ConflictLemmas.{IsOfGreatest, greatest_there}
 
 -- ---- assignments come and go
 
@@ -69,60 +70,27 @@ pub record IsLearnedOn (trail : Assigned) (clause : List Lit) (lit : Lit) (back 
   pub level : back ≡ greatest_level trail.steps (others clause lit)
   pub below : back < present_level trail.steps
 
--- a false literal of a higher level is unset after going back
-false_unset : (trail : Assigned) (lit : Lit) (level : ℕ) → IsTrail trail → IsFalse trail.steps lit → level < level_at trail.steps lit → value_of (up_to level trail.steps) lit ≡ Unset
-false_unset trail lit level is wrong above =
-    let by = refuter trail.steps lit wrong in
-    let at : level_at trail.steps lit ≡ by.step.level = (level_found trail.steps lit by.step by.found).0 in
-    unset_above level trail.steps lit by.step is.levels by.found (omega arith)
-
+-- at that level and below its asserting literal is unset
 asserting_unset : (trail : Assigned) (clause : List Lit) (lit : Lit) (back level : ℕ) → IsLearnedOn trail clause lit back → level ≤ back → value_of (up_to level trail.steps) lit ≡ Unset
 asserting_unset trail clause lit back level is low =
     let at : level_at trail.steps lit ≡ present_level trail.steps = ap (λ o. unwrap_or o 0) is.asserting.present in
     let below = is.below in
-    false_unset trail lit level is.is_trail (All-contains (IsFalse trail.steps) clause lit is.is_false is.asserting.here) (omega arith)
-
-filter_within : {X : Type 0} (p : X → Bool) (xs : List X) → All (Contains xs) (filter p xs)
-filter_within p [] = All-nil (Contains [])
-filter_within p (x ∷ xs) =
-    go (p x) (All-weaker (Contains xs) (Contains (x ∷ xs)) (λ y here. has_later x y xs here) (filter p xs) (filter_within p xs))
-  where
-    go : (b : Bool) → All (Contains (x ∷ xs)) (filter p xs) → All (Contains (x ∷ xs)) (cond b (x ∷ filter p xs) (filter p xs))
-    go true later = All-cons (Contains (x ∷ xs)) x (filter p xs) (has_first x xs) later
-    go false later = later
-
-other_kept : (clause : List Lit) (lit other : Lit) → Contains clause other → other ≢ lit → Contains (others clause lit) other
-other_kept clause lit other here differs =
-    has_kept (λ l. not (l.0 == lit.0)) clause other here (not_from_false (other.0 == lit.0) (ne_eqb other.0 lit.0 (λ e. differs (lit_of_code other lit e))))
+    unset_above trail level lit is.is_trail (omega arith)
 
 others_within : (clause : List Lit) (lit : Lit) → All (Contains clause) (others clause lit)
-others_within clause lit = filter_within (λ l. not (l.0 == lit.0)) clause
+others_within clause lit = All-filter (λ l. not (l.0 == lit.0)) (Contains clause) clause (All-contains_itself clause)
 
--- back there the clause is a unit
-pub unit_back : (trail : Assigned) (clause : List Lit) (lit : Lit) (back : ℕ) → IsLearnedOn trail clause lit back → IsUnitOn (up_to back trail.steps) clause lit
-unit_back trail clause lit back is =
-    record {
-      here = is.asserting.here;
-      unset = asserting_unset trail clause lit back back is (omega arith);
-      others = λ k d within differs.
-          let other = get_or clause k d in
-          let low : level_at trail.steps other ≤ greatest_level trail.steps (others clause lit) =
-          All-contains (λ l. level_at trail.steps l ≤ greatest_level trail.steps (others clause lit)) (others clause lit) other (each_below trail.steps (others clause lit))
-          (other_kept clause lit other (All-contains_itself clause k d within) differs) in
-          let same = is.level in
-          (still_false back trail.steps other (is.is_false k d within) (omega arith)).is_false;
-    }
-
--- so the clauses before don't absorb it
+-- the clauses before don't absorb it
 pub learned_is_unit : (clauses : List (List Lit)) (trail back_trail : Assigned) (clause : List Lit) (lit : Lit) (back : ℕ) → IsLearnedOn trail clause lit back → AreSettledBelow clauses trail.steps
     → IsTrail back_trail → back_trail.steps ≡ up_to back trail.steps → IsUnit clauses clause
 learned_is_unit clauses trail back_trail clause lit back is settled there steps =
     let here = is.asserting.here in
+    let above : 0 < present_level trail.steps = omega (arith, is.below) in
     record {
       some = omega (arith, here.1);
       once = is.once;
       new = fixpoint_absorbs_no_unit back_trail clauses clause lit there (subst (IsFixpoint clauses) (sym steps) (settled back is.below))
-          (subst (λ s. IsUnitOn s clause lit) (sym steps) (unit_back trail clause lit back is));
+          (subst (λ s. IsUnitOn s clause lit) (sym steps) (learned_is_a_unit trail clause lit back is.is_trail above is.is_false is.asserting is.level));
     }
 
 -- at still lower levels two of its literals are unset
@@ -161,7 +129,7 @@ quiet_below trail clause lit back level is low =
     second : value_of (up_to level trail.steps) one.lit ≡ Unset
     second =
         let same = is.level in
-        false_unset trail one.lit level is.is_trail (All-contains (IsFalse trail.steps) clause one.lit is.is_false one_here) (omega (arith, one.level))
+        unset_above trail level one.lit is.is_trail (omega (arith, one.level))
 
 -- the clause is added after going back
 pub settled_learned : (old new : List (List Lit)) (trail back_trail : Assigned) (clause : List Lit) (lit : Lit) (back : ℕ) → IsLearnedOn trail clause lit back → AreSettledBelow old trail.steps

@@ -10,5 +10,7 @@ mod search;
 mod steering;
 #[cfg(test)]
 mod tests;
+#[cfg(test)]
+mod units;
 
 pub use search::{Answer, Search};

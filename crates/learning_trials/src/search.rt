@@ -3,9 +3,10 @@
 ghost use Rattle.std.specs.Prelude.{◌≡◌, ◌<◌, ◌≤◌, ◌^◌, ◌∷◌, [], ◌++◌};
 ghost use Rattle.std.specs.Prelude.{List, All, OnOk, IfOk, IfSome};
 ghost use Rattle.clause_store.specs.Clause.{IsClause, IsOver};
+ghost use Rattle.clause_store.specs.Standing.{IsConflict};
 ghost use Rattle.clause_store.specs.Trail.{IsTrail, present_level, up_to};
 ghost use Rattle.propagator.specs.Watched.{IsReady};
-ghost use Rattle.propagator.specs.Fixpoint.{IsConflict, IsFixpoint};
+ghost use Rattle.propagator.specs.Fixpoint.{IsFixpoint};
 ghost use Rattle.learning_trials.specs.Search.{AreAssumedFirst, AreSettledBelow, AreTrue};
 ghost use Rattle.learning_trials.specs.Search.{AddsUnits, GoesOn, IsAnswer, IsNotTrueAt};
 

@@ -1,5 +1,6 @@
 // Small sets of clauses whose answers are known, and random ones whose answers are compared with
-// what all assignments say. Literal 2 says that variable 1 is true, literal 3 that it is false.
+// what all assignments say, and what they taught with slow unit propagation. Literal 2 says that
+// variable 1 is true, literal 3 that it is false.
 ghost use Rattle.std.specs.Prelude.{◌≡◌, ◌<◌, ◌≤◌, ◌^◌, All, IfOk, OnOk};
 ghost use Rattle.propagator.specs.Watched.{IsReady};
 ghost use Rattle.learning_trials.specs.Search.{IsReadyOver};
@@ -8,6 +9,7 @@ ghost use Rattle.clause_store.specs.Clause.{IsOver};
 use crate::every::is_right;
 use crate::random::{Draws, clause_of, lits_of, random_clause, random_lits};
 use crate::search::{Answer, Search};
+use crate::units::are_confirmed;
 use clause_store::{Lit, NoMemory};
 use conflict_learning::Learned;
 use std::alloc::Global;
@@ -227,11 +229,12 @@ fn is_answered(
 #[derive(Drop)]
 struct Round {
     right: bool,
+    confirmed: bool,
     conflicts: usize,
     learned: Learned,
 }
 
-/// Solves random clauses with 0 to 3 assumed literals in turn.
+/// Solves random clauses with 0 to 3 assumed literals in turn, and confirms what was learned.
 fn round_of(
     alloc: Global,
     vars: u32,
@@ -248,21 +251,24 @@ fn round_of(
         let assumed = random_lits(alloc, vars, size, draws)?;
         right &= is_answered(alloc, &mut search, count, assumed.as_slice())?;
     }
+    let confirmed = are_confirmed(alloc, &search.store, count)?;
     Ok(Round {
         right,
+        confirmed,
         conflicts: search.store.len().saturating_sub(count),
         learned: search.into_learned(),
     })
 }
 
 #[test]
-fn random_clauses_get_the_answer_of_all_assignments(rt: HostRuntime) -> Result<(), Fail> {
+fn random_clauses_get_right_answers_and_teach_units(rt: HostRuntime) -> Result<(), Fail> {
     let mut draws = Draws::of(1);
     let mut learned = Learned::open();
     let mut conflicts: usize = 0;
     for round in 0..300u32 {
         let done = round_of(rt.alloc(), 6 + round % 3, learned, &mut draws)?;
-        assert!(rt; done.right, "{round}");
+        assert!(rt; done.right, "answers of {round}");
+        assert!(rt; done.confirmed, "clauses of {round}");
         conflicts = conflicts.saturating_add(done.conflicts);
         learned = done.learned;
     }

@@ -1,11 +1,11 @@
 use Rattle.std.proofs.Common.{◌≡◌, ◌<◌, [], ◌∷◌, ◌++◌, arith, sym, ◌∙◌, ap, subst}
 use Rattle.clause_store.specs.Entailment.{Follows}
 use Rattle.clause_store.specs.Trail.{present_level}
-use Rattle.conflict_learning.specs.Analysis.{IsConflict}
+use Rattle.conflict_learning.proofs.UnitLemmas.{back_is_lower}
 use Rattle.propagator.proofs.WatchedLemmas.{ready_with_clause}
 use Rattle.learning_trials.specs.Search.{IsUnmet}
 use Rattle.learning_trials.proofs.GoingLemmas.{goes_on, goes_on_learned, over_learned, over_moved}
-use Rattle.learning_trials.proofs.ConflictLemmas.{level_within, conflict_there, back_below}
+use Rattle.learning_trials.proofs.ConflictLemmas.{level_within, conflict_there}
 use Rattle.learning_trials.proofs.SettledLemmas.{IsLearnedOn}
 use Rattle.learning_trials.proofs.AnswerLemmas.{none_met}
 use Rattle.learning_trials.proofs.search.Search.learn_from.Goals as goal
@@ -22,16 +22,22 @@ go_back-requires-clause-level c =
 
 pub analyse-requires-clause-conflict : goal.analyse-requires-clause-conflict
 analyse-requires-clause-conflict c =
-    subst (λ clauses. IsConflict clauses c.go_back.new.self.trail.steps c.args.conflict) (sym c.go_back.ensures.store)
-    (conflict_there c.args.self.now.store c.args.self.now.trail.steps c.go_back.new.self.trail.steps c.args.conflict c.lits.result.now c.greatest_level-level.result
-    c.requires.conflict c.lits.ensures.lits c.greatest_level-level.ensures (omega arith) (ap (λ trail. trail.steps) c.go_back.ensures.steps) c.go_back.ensures.level)
+    (conflict_there c.args.self.now.store c.go_back.new.self.store c.args.self.now.trail.steps c.go_back.new.self.trail.steps c.args.conflict c.lits.result.now c.greatest_level-level.result
+    c.requires.conflict c.lits.ensures.lits c.greatest_level-level.ensures (omega arith) c.go_back.ensures.store (ap (λ trail. trail.steps) c.go_back.ensures.steps) c.go_back.ensures.level).conflict
+
+pub analyse-requires-clause-present : goal.analyse-requires-clause-present
+analyse-requires-clause-present c =
+    (conflict_there c.args.self.now.store c.go_back.new.self.store c.args.self.now.trail.steps c.go_back.new.self.trail.steps c.args.conflict c.lits.result.now c.greatest_level-level.result
+    c.requires.conflict c.lits.ensures.lits c.greatest_level-level.ensures (omega arith) c.go_back.ensures.store (ap (λ trail. trail.steps) c.go_back.ensures.steps) c.go_back.ensures.level).present
 
 pub go_back-requires-2-clause-level : goal.go_back-requires-2-clause-level
 go_back-requires-2-clause-level c =
     let above : 0 < present_level c.go_back.new.self.trail.steps = omega (arith, c.go_back.ensures.level) in
-    let low = back_below c.go_back.new.self.trail.steps c.analyse.new.learned.clause c.analyse.new.learned.asserting c.analyse.new.learned.back
-    c.in_ok-analyse.ensures.asserting c.in_ok-analyse.ensures.back above in
-    omega arith
+    omega (
+      arith,
+      c.in_ok-analyse.ensures.back,
+      back_is_lower c.go_back.new.self.trail.steps c.analyse.new.learned.clause c.analyse.new.learned.asserting above c.in_ok-analyse.ensures.asserting,
+    )
 
 pub attach-requires-clause-over : goal.attach-requires-clause-over
 attach-requires-clause-over c =
@@ -62,7 +68,7 @@ returns-clause-on c assumed =
       once = c.in_ok-analyse.ensures.once;
       asserting = c.in_ok-analyse.ensures.asserting;
       level = c.in_ok-analyse.ensures.back;
-      below = back_below c.go_back.new.self.trail.steps clause lit back c.in_ok-analyse.ensures.asserting c.in_ok-analyse.ensures.back above;
+      below = omega (arith, c.in_ok-analyse.ensures.back, back_is_lower c.go_back.new.self.trail.steps clause lit above c.in_ok-analyse.ensures.asserting);
     } in
     goes_on assumed c.args.self.now.store c.go_back.new.self.store c.add.new.self c.args.self.now.trail c.go_back.new.self.trail c.go_back-2.new.self.trail
     (c.go_back.ensures.on assumed)
