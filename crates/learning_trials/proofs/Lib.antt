@@ -1,0 +1,5 @@
+pub mod BackLemmas
+pub mod GoingLemmas
+pub mod ConflictLemmas
+pub mod AnswerLemmas
+pub mod SettledLemmas

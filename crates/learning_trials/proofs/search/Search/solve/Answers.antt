@@ -1,0 +1,40 @@
+use Rattle.std.proofs.Common.{subst}
+use Rattle.std.specs.Prelude.{IfSome}
+use Rattle.learning_trials.specs.Search.{IsAnswer}
+use Rattle.learning_trials.proofs.GoingLemmas.{first_at_start, goes_on}
+use Rattle.learning_trials.proofs.SettledLemmas.{settled_at_start}
+use Rattle.learning_trials.proofs.AnswerLemmas.{answer_before}
+use Rattle.learning_trials.proofs.search.Search.solve.Goals as goal
+
+pub turns-init : goal.turns-init
+turns-init c = record {
+  ready = c.go_back.ensures.ready;
+  on = c.go_back.ensures.on c.args.assumed.now;
+  first = first_at_start c.args.assumed.now c.go_back.new.self.trail c.go_back.ensures.trail c.go_back.ensures.level;
+  settled = settled_at_start c.go_back.new.self.store c.go_back.new.self.trail.steps c.go_back.ensures.level;
+}
+
+pub turns-preserved : goal.turns-preserved
+turns-preserved c = record {
+  ready = c.in_ok-answer.ensures.ready;
+  on =
+      goes_on c.args.assumed.now c.args.self.now.store c.turns.self.store c.turn.new.self.store c.args.self.now.trail c.turns.self.trail c.turn.new.self.trail
+      c.turns.invariant.on c.in_ok-answer.ensures.on;
+  first = c.in_ok-answer.ensures.on.first c.turns.invariant.first;
+  settled = c.in_ok-answer.ensures.on.settled c.turns.invariant.settled;
+}
+
+pub returns-in-Some-clause-answer : goal.returns-in-Some-clause-answer
+returns-in-Some-clause-answer c =
+    answer_before c.args.self.now.store c.turns.self.store c.args.assumed.now c.turn.new.self.trail c.in-Some.answer c.turns.invariant.on.same
+    (subst (λ found. IfSome found (IsAnswer c.turns.self.store c.args.assumed.now c.turn.new.self.trail)) c.in-Some.is c.in_ok-answer.ensures.answer)
+
+pub returns-in-Some-clause-units : goal.returns-in-Some-clause-units
+returns-in-Some-clause-units c =
+    (goes_on c.args.assumed.now c.args.self.now.store c.turns.self.store c.turn.new.self.store c.args.self.now.trail c.turns.self.trail c.turn.new.self.trail
+    c.turns.invariant.on c.in_ok-answer.ensures.on).units
+
+pub returns-then-len-full-clause-units : goal.returns-then-len-full-clause-units
+returns-then-len-full-clause-units c =
+    (goes_on c.args.assumed.now c.args.self.now.store c.turns.self.store c.turn.new.self.store c.args.self.now.trail c.turns.self.trail c.turn.new.self.trail
+    c.turns.invariant.on c.in_ok-answer.ensures.on).units

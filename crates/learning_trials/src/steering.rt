@@ -1,0 +1,56 @@
+// What steers a search: where a conflict stands, and what is to be decided next.
+ghost use Rattle.std.specs.Prelude.{◌≡◌, ◌≢◌, ◌<◌, length, All, IfNone, IfSome};
+ghost use Rattle.clause_store.specs.Clause.{IsOver};
+ghost use Rattle.clause_store.specs.Trail.{IsTotal, IsTrail, value_of};
+ghost use Rattle.conflict_learning.specs.Analysis.{greatest_level};
+ghost use Rattle.learning_trials.specs.Search.{AreTrue, IsNotTrueAt};
+
+use clause_store::{Lit, Trail, Value, Var};
+
+/// The greatest level of the literals, or 0.
+pub fn greatest_level(trail: &Trail, lits: &[Lit]) -> u32
+    requires { All (IsOver trail.now.vars) lits.now }
+    ensures { result ≡ greatest_level trail.now.steps lits.now }
+{
+    let mut greatest: u32 = 0;
+    for lit in lits {
+        greatest = greatest.max(trail.level_of(lit.var()).unwrap_or(0));
+    }
+    greatest
+}
+
+/// The place of the first literal that isn't true.
+pub fn first_not_true(trail: &Trail, lits: &[Lit]) -> Option<usize>
+    requires { All (IsOver trail.now.vars) lits.now }
+    ensures none { IfNone result (AreTrue trail.now.steps lits.now) }
+    ensures some { IfSome result (IsNotTrueAt trail.now.steps lits.now) }
+{
+    for (at, lit) in lits.iter().enumerate() {
+        if trail.value(*lit) != Value::Yes {
+            return Some(at);
+        }
+    }
+    None
+}
+
+/// The literal that makes the least unset variable false.
+pub fn least_unset(trail: &Trail) -> Option<Lit>
+    ensures none { IfNone result (IsTotal trail.now) }
+    ensures over { IfSome result (IsOver trail.now.vars) }
+    ensures unset { IfSome result (λ lit. value_of trail.now.steps lit ≡ Value.Unset) }
+{
+    for var in 1..trail.vars() + 1 {
+        let lit = Var(var).negative();
+        if trail.value(lit) == Value::Unset {
+            return Some(lit);
+        }
+    }
+    None
+}
+
+/// The trail is one, as contracts know it. It does nothing when it runs.
+pub fn know_trail(trail: &Trail)
+    ensures { IsTrail trail.now }
+{
+    let _ = trail.steps();
+}
