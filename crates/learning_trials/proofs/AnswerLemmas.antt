@@ -42,7 +42,7 @@ total_false trail lit total over not_true = go (step_of trail.steps (variable li
     go (Some step) some not_yes = by (eqb step.lit.0 lit.0) not_yes
 
 -- the assignment of a total trail that is a fixpoint meets the clauses
-fixpoint_meets : (trail : Assigned) (clauses : List (List Lit)) → IsTotal trail → AreOver trail.vars clauses → IsFixpoint clauses trail.steps → Meets (values_of trail) clauses
+pub fixpoint_meets : (trail : Assigned) (clauses : List (List Lit)) → IsTotal trail → AreOver trail.vars clauses → IsFixpoint clauses trail.steps → Meets (values_of trail) clauses
 fixpoint_meets trail clauses total over fixpoint k d within =
     elim (any_or_none (makes_true (values_of trail)) (get_or clauses k d)) [
       | inl some ↦ some
