@@ -4,6 +4,7 @@ pub mod GivenLemmas
 pub mod WalkLemmas
 pub mod ClearLemmas
 pub mod LearnedLemmas
+pub mod CellLemmas
 pub mod RefusalLemmas
 pub mod UnitLemmas
 pub mod TestLemmas

@@ -6,7 +6,8 @@ ghost use Rattle.std.specs.Prelude.{◌≡◌, ◌≤◌, ◌<◌, [], ◌∷◌
 ghost use Rattle.clause_store.specs.Clause.{variable, IsOver};
 ghost use Rattle.clause_store.specs.Standing.{IsFalse};
 ghost use Rattle.clause_store.specs.Trail.{IsTrailOf, level_of, place_of};
-ghost use Rattle.conflict_learning.specs.Refusal.{IsCore, CannotMeet, AddsDecisions, AddsBlanks, AreCells, is_blank, IsMarkable, Marks, MarksAll, Explains, ExplainsAll};
+ghost use Rattle.conflict_learning.specs.Refusal.{IsCore, CannotMeet};
+ghost use Rattle.conflict_learning.specs.Cells.{AddsDecisions, AddsBlanks, AreCells, is_blank, IsMarkable, Marks, MarksAll, Explains, ExplainsAll};
 
 use clause_store::{Clause, Lit, NoMemory, Store, Trail};
 use std::alloc::Global;

@@ -1,5 +1,5 @@
 use Rattle.std.proofs.Common.{subst}
-use Rattle.conflict_learning.specs.Refusal.{AddsBlanks}
+use Rattle.conflict_learning.specs.Cells.{AddsBlanks}
 use Rattle.conflict_learning.proofs.RefusalLemmas as lemma
 use Rattle.conflict_learning.proofs.refusal.add_decisions.Goals as goal
 

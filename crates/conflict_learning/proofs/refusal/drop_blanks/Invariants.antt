@@ -1,6 +1,6 @@
 use Rattle.std.proofs.Common.{not}
 use Rattle.std.proofs.lemmas.List.Filters.{FiltersInPlace}
-use Rattle.conflict_learning.specs.Refusal.{is_blank}
+use Rattle.conflict_learning.specs.Cells.{is_blank}
 use Rattle.conflict_learning.proofs.refusal.drop_blanks.Given as goal
 
 abbrev pub invariant-loop-at : goal.invariant-loop-at

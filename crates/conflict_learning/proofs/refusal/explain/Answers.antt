@@ -1,7 +1,7 @@
 use Rattle.std.proofs.Common.{◌≡◌, ◌+◌, ◌-◌, ◌<◌, ◌≤◌, ℕ, List, Some, length, get_or, sym, subst, arith}
 use Rattle.std.specs.Prelude.{slice_get}
 use Rattle.clause_store.specs.declared.step.Step.{Step}
-use Rattle.conflict_learning.specs.Refusal.{Explains}
+use Rattle.conflict_learning.specs.Cells.{Explains}
 use Rattle.conflict_learning.proofs.AssignedLemmas.{blank}
 use Rattle.conflict_learning.proofs.RefusalLemmas as lemma
 use Rattle.conflict_learning.proofs.refusal.explain.Goals as goal

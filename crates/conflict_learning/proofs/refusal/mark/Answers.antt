@@ -3,7 +3,8 @@ use Rattle.conflict_learning.proofs.AssignedLemmas.{blank}
 use Rattle.clause_store.specs.Trail.{place_of}
 use Rattle.clause_store.proofs.PlaceLemmas.{place_within}
 use Rattle.clause_store.specs.Clause.{variable}
-use Rattle.conflict_learning.proofs.RefusalLemmas.{marks_set, read_there}
+use Rattle.conflict_learning.proofs.CellLemmas.{marks_set}
+use Rattle.conflict_learning.proofs.RefusalLemmas.{read_there}
 use Rattle.conflict_learning.proofs.refusal.mark.Goals as goal
 
 pub returns-then-cell-len : goal.returns-then-cell-len

@@ -1,7 +1,7 @@
 use Rattle.std.proofs.Common.{sym, subst, get_or}
 use Rattle.std.proofs.lemmas.List.{take_more}
-use Rattle.conflict_learning.specs.Refusal.{MarksAll, blank}
-use Rattle.conflict_learning.proofs.RefusalLemmas.{marks_more}
+use Rattle.conflict_learning.specs.Cells.{MarksAll, blank}
+use Rattle.conflict_learning.proofs.CellLemmas.{marks_more}
 use Rattle.conflict_learning.proofs.refusal.mark_all.Goals as goal
 
 pub loop-lit-preserved : goal.loop-lit-preserved

@@ -1,5 +1,5 @@
 use Rattle.std.proofs.Common.{take}
-use Rattle.conflict_learning.specs.Refusal.{MarksAll}
+use Rattle.conflict_learning.specs.Cells.{MarksAll}
 use Rattle.conflict_learning.proofs.refusal.mark_all.Given as goal
 
 abbrev pub invariant-loop-lit : goal.invariant-loop-lit
