@@ -1,14 +1,14 @@
--- What values literals have after going back.
-use Rattle.std.proofs.Common.{◌≡◌, suc, ◌≤◌, Bool, true, false, cond, eqb, get_or, List, [], ◌∷◌, Option, Some, None, refl, sym, ap, ◌∙◌, inl, inr, arith}
-use Rattle.std.specs.Prelude.{AllPairs, IsSomeAnd, find, filter, nat_le, option_map}
+-- What going back leaves: a front of the trail, in which literals have the values and levels that they had.
+use Rattle.std.proofs.Common.{◌≡◌, ℕ, suc, ◌<◌, ◌≤◌, Bool, true, false, cond, eqb, get_or, List, [], ◌∷◌, ◌++◌, Option, Some, None, refl, sym, ap, ◌∙◌, inl, inr, arith}
+use Rattle.std.specs.Prelude.{All, AllPairs, IsSomeAnd, find, filter, nat_le, option_map}
 use Rattle.std.proofs.lemmas.Bool.{cases_Bool, cases_lt, eqb-true, le-leb, lt-leb, ne_eqb}
-use Rattle.std.proofs.lemmas.List.Elements.{All-filter}
+use Rattle.std.proofs.lemmas.List.Elements.{All-cons, All-nil, All-head, All-tail, All-filter, All-weaker}
 use Rattle.std.proofs.lemmas.Option.{same_Some}
-use Rattle.clause_store.specs.declared.literal.Value.TheVariants.{Unset}
+use Rattle.clause_store.specs.declared.literal.ClauseRef.{ClauseRef}
 use Rattle.clause_store.specs.declared.step.Step.{Step}
 use Rattle.clause_store.specs.Clause.{variable}
-use Rattle.clause_store.specs.Trail.{step_of, value_by, value_of, up_to}
-use Rattle.clause_store.specs.Laws.{ValuesAfterBack}
+use Rattle.clause_store.specs.Trail.{RisesFrom, next_level, step_of, value_by, up_to}
+use Rattle.clause_store.specs.Laws.{ValuesAfterBack, FrontAfterBack, BackTwice}
 use Rattle.clause_store.proofs.StepLemmas.{find_none, none_found}
 
 -- ---- finding among those that a filter keeps
@@ -42,11 +42,71 @@ find_dropped p keeps (y ∷ xs) x once found dropped =
           elim (cases_Bool (keeps y)) [ inl stays ↦ rw (stays, fails) later | inr goes ↦ rw goes later ]
     ]
 
+-- ---- the front of a trail
+
+next_above : (level : ℕ) (reason : Option ClauseRef) → level ≤ next_level level reason
+next_above level None = omega arith
+next_above level (Some why) = omega arith
+
+-- no assignment is of a lower level than those before it
+rises_above : (level : ℕ) (steps : List Step) → RisesFrom level steps → All (λ step. level ≤ step.level) steps
+rises_above level [] rises = All-nil (λ step. level ≤ step.level)
+rises_above level (step ∷ rest) rises =
+    let first : level ≤ step.level = omega (arith, next_above level step.reason, rises.0) in
+    All-cons (λ s. level ≤ s.level) step rest first
+    (All-weaker (λ s. step.level ≤ s.level) (λ s. level ≤ s.level) (λ s higher. omega arith) rest (rises_above step.level rest rises.1))
+
+-- none of a higher level stays
+pub none_up_to : (level : ℕ) (steps : List Step) → All (λ step. level < step.level) steps → up_to level steps ≡ []
+none_up_to level [] above = refl
+none_up_to level (step ∷ rest) above =
+    rw (lt-leb step.level level (All-head (λ s. level < s.level) step rest above))
+    (none_up_to level rest (All-tail (λ s. level < s.level) step rest above))
+
+-- the assignments of the levels up to one come first
+up_to_is_front : (level start : ℕ) (steps : List Step) → RisesFrom start steps → (rest : List Step) × (steps ≡ up_to level steps ++ rest)
+up_to_is_front level start [] rises = ([], refl)
+up_to_is_front level start (step ∷ rest) rises =
+    elim (cases_lt level step.level) [
+      | inl higher ↦ (
+        step ∷ rest,
+        sym (ap (λ front. front ++ step ∷ rest)
+            (none_up_to level (step ∷ rest)
+            (All-cons (λ s. level < s.level) step rest higher
+            (All-weaker (λ s. step.level ≤ s.level) (λ s. level < s.level) (λ s more. omega arith) rest (rises_above step.level rest rises.1))))),
+      )
+      | inr low ↦
+          let later = up_to_is_front level step.level rest rises.1 in
+          (later.0, rw (le-leb step.level level low) (ap (λ s. step ∷ s) later.1))
+    ]
+
+pub front_after_back : FrontAfterBack
+front_after_back trail level is = up_to_is_front level 0 trail.steps is.levels
+
+pub back_twice : BackTwice
+back_twice low high [] below = refl
+back_twice low high (step ∷ rest) below =
+    elim (cases_lt high step.level) [
+      | inl higher ↦ rw (lt-leb step.level high higher, lt-leb step.level low (omega arith)) (back_twice low high rest below)
+      | inr lower ↦
+          rw (le-leb step.level high lower) (ap (λ later. cond (nat_le step.level low) (step ∷ later) later) (back_twice low high rest below))
+    ]
+
 -- ---- values
+
+-- an assignment of that level or before is still found
+pub step_of_up_to : (level : ℕ) (steps : List Step) (var : ℕ) (step : Step) → step_of steps var ≡ Some step → step.level ≤ level → step_of (up_to level steps) var ≡ Some step
+step_of_up_to level steps var step found low =
+    find_kept (λ s. eqb (variable s.lit) var) (λ s. nat_le s.level level) steps step found (le-leb step.level level low)
 
 pub values_after_back : ValuesAfterBack
 values_after_back trail level lit is =
-    let it = go (step_of trail.steps (variable lit)) refl in record { kept = it.0; unset = it.1 }
+    let it = go (step_of trail.steps (variable lit)) refl in
+    record {
+      kept = λ assigned. ap (λ o. value_by o lit) (it.0 assigned);
+      unset = λ other. ap (λ o. value_by o lit) (it.1 other);
+      same_level = λ assigned. ap (option_map (λ step. step.level)) (it.0 assigned);
+    }
   where
     names : Step → Bool
     names step = eqb (variable step.lit) (variable lit)
@@ -60,20 +120,17 @@ values_after_back trail level lit is =
         (λ second. is.once i j d before inside (eqb-true (variable (get_or trail.steps i d).lit) (variable lit) first ∙ sym second))
 
     go : (o : Option Step) → step_of trail.steps (variable lit) ≡ o
-        → (IsSomeAnd (option_map (λ step. step.level) o) (λ at. at ≤ level) → value_of (up_to level trail.steps) lit ≡ value_by o lit)
-        × (¬ IsSomeAnd (option_map (λ step. step.level) o) (λ at. at ≤ level) → value_of (up_to level trail.steps) lit ≡ Unset)
+        → (IsSomeAnd (option_map (λ step. step.level) o) (λ at. at ≤ level) → step_of (up_to level trail.steps) (variable lit) ≡ o)
+        × (¬ IsSomeAnd (option_map (λ step. step.level) o) (λ at. at ≤ level) → step_of (up_to level trail.steps) (variable lit) ≡ None)
     go None found = (
       λ assigned. absurd assigned,
-      λ other. ap (λ o. value_by o lit) (find_none names (up_to level trail.steps) (All-filter keeps (λ step. names step ≡ false) trail.steps (none_found names trail.steps found))),
+      λ other. find_none names (up_to level trail.steps) (All-filter keeps (λ step. names step ≡ false) trail.steps (none_found names trail.steps found)),
     )
     go (Some step) found =
         elim (cases_lt level step.level) [
           | inl above ↦ (
             λ assigned. absurd (omega (arith, assigned, above)),
-            λ other. ap (λ o. value_by o lit) (find_dropped names keeps trail.steps step once found (lt-leb step.level level above)),
+            λ other. find_dropped names keeps trail.steps step once found (lt-leb step.level level above),
           )
-          | inr by ↦ (
-            λ assigned. ap (λ o. value_by o lit) (find_kept names keeps trail.steps step found (le-leb step.level level by)),
-            λ other. absurd (other by),
-          )
+          | inr by ↦ (λ assigned. step_of_up_to level trail.steps (variable lit) step found by, λ other. absurd (other by))
         ]

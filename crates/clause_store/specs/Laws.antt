@@ -72,14 +72,28 @@ TotalMeans =
 abbrev pub IsAssignedBy : ℕ → List Step → Lit → Type 0
 IsAssignedBy level steps lit = IsSomeAnd (level_of steps (variable lit)) (λ at. at ≤ level)
 
--- going back to a level keeps the value of a literal that was assigned at it or before, and unsets
--- any other
+-- going back to a level keeps the value of a literal that was assigned at it or before and the
+-- level of its variable, and unsets any other
 pub record IsValuedAfterBack (level : ℕ) (steps : List Step) (lit : Lit) : Type 0 where
   pub kept : IsAssignedBy level steps lit → value_of (up_to level steps) lit ≡ value_of steps lit
   pub unset : ¬ IsAssignedBy level steps lit → value_of (up_to level steps) lit ≡ Unset
+  pub same_level :
+      IsAssignedBy level steps lit
+      → level_of (up_to level steps) (variable lit) ≡ level_of steps (variable lit)
 
 -- so on each trail
 abbrev pub ValuesAfterBack : Type 0
 ValuesAfterBack =
     (trail : Assigned) (level : ℕ) (lit : Lit) → IsTrail trail
     → IsValuedAfterBack level trail.steps lit
+
+-- what stays after going back is a front of the trail
+abbrev pub FrontAfterBack : Type 0
+FrontAfterBack =
+    (trail : Assigned) (level : ℕ) → IsTrail trail
+    → (rest : List Step) × (trail.steps ≡ up_to level trail.steps ++ rest)
+
+-- going back and then further back is going back to the lower level at once
+abbrev pub BackTwice : Type 0
+BackTwice =
+    (low high : ℕ) (steps : List Step) → low ≤ high → up_to low (up_to high steps) ≡ up_to low steps

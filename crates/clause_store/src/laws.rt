@@ -1,5 +1,8 @@
 // The laws of closure, units and trails, for the crates above. They do nothing when they run.
-ghost use Rattle.clause_store.specs.Laws.{ClosureGrows, RefutingGrows, AbsorbingGrows, ContainingIsAbsorbed, UnitsDiffer, UnitsGrow, ClosureHolds, RefutedFollows, TrailStays, TotalMeans, ValuesAfterBack};
+ghost use Rattle.clause_store.specs.Laws.{ClosureGrows, RefutingGrows, AbsorbingGrows};
+ghost use Rattle.clause_store.specs.Laws.{ContainingIsAbsorbed, UnitsDiffer, UnitsGrow};
+ghost use Rattle.clause_store.specs.Laws.{ClosureHolds, RefutedFollows, TrailStays, TotalMeans};
+ghost use Rattle.clause_store.specs.Laws.{ValuesAfterBack, FrontAfterBack, BackTwice};
 
 /// The closure only grows with the clauses and with the literals.
 pub fn closure_grows()
@@ -52,7 +55,17 @@ pub fn total_means()
 {}
 
 /// After going back to a level a literal that was assigned at it or before has the value that it
-/// had, and any other is unset.
+/// had, its variable the level, and any other literal is unset.
 pub fn values_after_back()
     ensures { ValuesAfterBack }
+{}
+
+/// What stays on a trail after going back is a front of it.
+pub fn front_after_back()
+    ensures { FrontAfterBack }
+{}
+
+/// Going back and then further back is going back to the lower level at once.
+pub fn back_twice()
+    ensures { BackTwice }
 {}

@@ -1,7 +1,6 @@
 -- That the answers of a search are right.
-use Rattle.std.proofs.Common.{◌≡◌, ◌≢◌, ℕ, Bool, true, false, cond, eqb, List, [], ◌∷◌, length, take, get_or, Option, Some, None, refl, sym, ap, ◌∙◌, subst, inl, inr, arith}
-use Rattle.std.specs.Prelude.{All, Contains, slice_get, IsSome}
-use Rattle.std.proofs.lemmas.Bool.{false≢true}
+use Rattle.std.proofs.Common.{◌≡◌, ◌≢◌, ℕ, List, [], ◌∷◌, length, take, get_or, Option, Some, None, refl, sym, ap, ◌∙◌, subst, inl, inr, arith}
+use Rattle.std.specs.Prelude.{All, Contains, slice_get}
 use Rattle.std.proofs.Math.Seq.{take-length}
 use Rattle.std.proofs.lemmas.List.Elements.{All-cons, All-nil, All-weaker, All-contains}
 use Rattle.std.proofs.lemmas.Option.{slice_get_read}
@@ -10,14 +9,15 @@ use Rattle.clause_store.specs.declared.literal.ClauseRef.{ClauseRef}
 use Rattle.clause_store.specs.declared.literal.Value.{Value}
 use Rattle.clause_store.specs.declared.literal.Value.TheVariants.{Yes, No, Unset}
 use Rattle.clause_store.specs.declared.step.Step.{Step}
-use Rattle.clause_store.specs.Clause.{variable, negation, makes_true, IsTrueIn, Meets, IsOver, AreOver}
+use Rattle.clause_store.specs.Clause.{variable, negation, IsTrueIn, IsOver, AreOver}
 use Rattle.clause_store.specs.Entailment.{InClosure}
 use Rattle.clause_store.specs.Standing.{IsFalse, IsConflict}
 use Rattle.clause_store.specs.Trail.{Assigned, IsTrail, IsTrailOf, IsTotal, step_of, value_by, value_of, values_of}
-use Rattle.clause_store.proofs.LiteralLemmas.{any_from, any_or_none}
+use Rattle.clause_store.proofs.LiteralLemmas.{any_from}
 use Rattle.clause_store.proofs.TrailLemmas.{total_means}
 use Rattle.clause_store.proofs.EntailmentLemmas.{not_refuted}
 use Rattle.propagator.specs.Fixpoint.{IsFixpoint}
+use Rattle.propagator.proofs.TotalLemmas.{total_fixpoint_meets}
 use Rattle.conflict_learning.specs.Analysis.{level_at, greatest_level}
 use Rattle.conflict_learning.specs.Refusal.{IsCore, IsDecision, CannotMeet}
 use Rattle.conflict_learning.proofs.AssignedLemmas.{here_at, level_found, refuter, step_of_before}
@@ -29,36 +29,11 @@ use Rattle.learning_trials.specs.declared.search.Answer.TheVariants.{Model, Core
 
 -- ---- models
 
--- what isn't true on a total trail is false
-total_false : (trail : Assigned) (lit : Lit) → IsTotal trail → IsOver trail.vars lit → value_of trail.steps lit ≢ Yes → IsFalse trail.steps lit
-total_false trail lit total over not_true = go (step_of trail.steps (variable lit)) (total (variable lit) over.first over.last) not_true
-  where
-    by : (b : Bool) → cond b Yes No ≢ Yes → cond b Yes No ≡ No
-    by true not_yes = absurd (not_yes refl)
-    by false not_yes = refl
-
-    go : (o : Option Step) → IsSome o → value_by o lit ≢ Yes → value_by o lit ≡ No
-    go None some not_yes = absurd (false≢true some)
-    go (Some step) some not_yes = by (eqb step.lit.0 lit.0) not_yes
-
--- the assignment of a total trail that is a fixpoint meets the clauses
-pub fixpoint_meets : (trail : Assigned) (clauses : List (List Lit)) → IsTotal trail → AreOver trail.vars clauses → IsFixpoint clauses trail.steps → Meets (values_of trail) clauses
-fixpoint_meets trail clauses total over fixpoint k d within =
-    elim (any_or_none (makes_true (values_of trail)) (get_or clauses k d)) [
-      | inl some ↦ some
-      | inr none ↦
-          absurd ((fixpoint k d within).not_false
-          (λ at other inside.
-          let lit_over = over k d within at other inside in
-          total_false trail (get_or (get_or clauses k d) at other) total lit_over
-          (λ is_true. false≢true (sym (none at other inside) ∙ (total_means trail (get_or (get_or clauses k d) at other) total lit_over).1 is_true))))
-    ]
-
 pub is_model : (trail : Assigned) (clauses : List (List Lit)) (assumed : List Lit) → IsTotal trail → AreOver trail.vars clauses → IsFixpoint clauses trail.steps
     → All (IsOver trail.vars) assumed → AreTrue trail.steps assumed → IsModel clauses assumed trail
 is_model trail clauses assumed total over fixpoint assumed_over are =
     record {
-      meets = fixpoint_meets trail clauses total over fixpoint;
+      meets = total_fixpoint_meets trail clauses total over fixpoint;
       true_lits = λ k d within. (total_means trail (get_or assumed k d) total (assumed_over k d within)).1 (are k d within);
     }
 

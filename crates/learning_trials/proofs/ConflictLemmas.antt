@@ -10,11 +10,11 @@ use Rattle.clause_store.specs.declared.step.Step.{Step}
 use Rattle.clause_store.specs.Clause.{variable}
 use Rattle.clause_store.specs.Standing.{IsFalse, IsConflict}
 use Rattle.clause_store.specs.Trail.{value_by, present_level, up_to}
+use Rattle.clause_store.proofs.BackLemmas.{step_of_up_to}
 use Rattle.clause_store.proofs.LiteralLemmas.{any_from, has_first, has_later}
 use Rattle.conflict_learning.specs.Analysis.{HasPresent, level_at, greatest_level}
 use Rattle.conflict_learning.proofs.AssignedLemmas.{refuter, level_found, below_present}
 use Rattle.conflict_learning.proofs.LearnedLemmas.{conflict_false}
-use Rattle.learning_trials.proofs.BackLemmas.{step_of_up_to}
 
 -- ---- levels
 

@@ -11,11 +11,11 @@ use Rattle.clause_store.specs.declared.step.Step.{Step}
 use Rattle.clause_store.specs.Clause.{AreOver, HoldsIn, IsOver, Meets}
 use Rattle.clause_store.specs.Entailment.{AreUnits, Follows}
 use Rattle.clause_store.specs.Trail.{Assigned, IsTrail, RisesFrom, up_to, next_level, present_level}
+use Rattle.clause_store.proofs.BackLemmas.{front_after_back}
 use Rattle.clause_store.proofs.ReasonLemmas.{slice_get-seam}
 use Rattle.clause_store.proofs.TrailLemmas.{slice_get-append}
 use Rattle.propagator.specs.Fixpoint.{Extends, IsFixpoint}
 use Rattle.learning_trials.specs.Search.{AddsUnits, AreSettledBelow, AreTrue, AreAssumedFirst, MeanTheSame, GoesOn}
-use Rattle.learning_trials.proofs.BackLemmas.{up_to_is_front}
 use Rattle.learning_trials.proofs.SettledLemmas.{IsLearnedOn, learned_is_unit, settled_back, settled_decided, settled_extended, settled_learned}
 
 -- ---- decisions
@@ -118,7 +118,7 @@ goes_on_extended assumed clauses old new is =
 pub goes_on_back : (assumed : List Lit) (clauses : List (List Lit)) (old new : Assigned) (level : ℕ) → IsTrail old → level ≤ present_level old.steps
     → new ≡ record old { steps = up_to level old.steps } → present_level new.steps ≡ level → GoesOn assumed clauses clauses old new
 goes_on_back assumed clauses old new level is within back present =
-    let front = up_to_is_front level 0 old.steps is.levels in
+    let front = front_after_back old level is in
     record {
       vars = ap (λ trail. trail.vars) back;
       same = same_clauses clauses;

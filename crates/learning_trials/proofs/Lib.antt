@@ -1,4 +1,3 @@
-pub mod BackLemmas
 pub mod GoingLemmas
 pub mod ConflictLemmas
 pub mod AnswerLemmas

@@ -1,17 +1,18 @@
 -- Where propagation had nothing left to do at the levels below, a learned clause is a unit at the level to
 -- which it goes back, so the clauses before don't absorb it.
-use Rattle.std.proofs.Common.{◌≡◌, ◌≢◌, ℕ, ◌+◌, ◌<◌, ◌≤◌, max, not, List, [], ◌∷◌, ◌++◌, sym, ap, ◌∙◌, subst, inl, inr, arith}
-use Rattle.std.specs.Prelude.{◌==◌, All, Contains, nat_le, unwrap_or}
+use Rattle.std.proofs.Common.{◌≡◌, ◌≢◌, ℕ, ◌+◌, ◌<◌, ◌≤◌, max, not, List, [], ◌∷◌, ◌++◌, sym, ap, ◌∙◌, subst, Option, Some, None, inl, inr, arith}
+use Rattle.std.specs.Prelude.{◌==◌, All, Contains, IsSomeAnd, nat_le, unwrap_or}
 use Rattle.std.proofs.lemmas.Bool.{cases_lt, eq-eqb, not_from_true, false≢true}
 use Rattle.std.proofs.lemmas.List.{append-nil}
 use Rattle.std.proofs.lemmas.List.Elements.{All-contains, All-contains_itself, All-filter, All-push, All-weaker, filter-append}
 use Rattle.clause_store.specs.declared.literal.Lit.{Lit}
 use Rattle.clause_store.specs.declared.literal.Value.TheVariants.{No, Unset}
 use Rattle.clause_store.specs.declared.step.Step.{Step}
-use Rattle.clause_store.specs.Clause.{HasNoVariableTwice}
+use Rattle.clause_store.specs.Clause.{HasNoVariableTwice, variable}
 use Rattle.clause_store.specs.Entailment.{IsUnit, others}
 use Rattle.clause_store.specs.Standing.{IsFalse, IsUnitOn}
-use Rattle.clause_store.specs.Trail.{Assigned, IsTrail, present_level, up_to, value_of}
+use Rattle.clause_store.specs.Trail.{Assigned, IsTrail, level_of, present_level, up_to, value_of}
+use Rattle.clause_store.proofs.BackLemmas.{back_twice, none_up_to, values_after_back}
 use Rattle.clause_store.proofs.LiteralLemmas.{cases_lit, kept_passes}
 use Rattle.clause_store.proofs.ReasonLemmas.{up_to_all, up_to_front}
 use Rattle.propagator.specs.Fixpoint.{Extends, IsFixpoint, IsQuietOn}
@@ -20,7 +21,6 @@ use Rattle.propagator.proofs.ClosureLemmas.{fixpoint_absorbs_no_unit}
 use Rattle.conflict_learning.specs.Analysis.{IsAsserting, level_at, greatest_level}
 use Rattle.conflict_learning.proofs.UnitLemmas.{learned_is_a_unit}
 use Rattle.learning_trials.specs.Search.{AreSettledBelow}
-use Rattle.learning_trials.proofs.BackLemmas.{none_up_to, up_to_twice, unset_above}
 use Rattle.learning_trials.proofs.ConflictLemmas.{IsOfGreatest, greatest_there}
 
 -- ---- assignments come and go
@@ -57,9 +57,18 @@ settled_decided clauses steps step fixpoint opens settled level below =
 pub settled_back : (clauses : List (List Lit)) (old new : List Step) (level : ℕ) → level ≤ present_level old → new ≡ up_to level old → present_level new ≡ level → AreSettledBelow clauses old
     → AreSettledBelow clauses new
 settled_back clauses old new level within back present settled low below =
-    subst (IsFixpoint clauses) (sym (ap (up_to low) back ∙ up_to_twice low level old (omega arith))) (settled low (omega arith))
+    subst (IsFixpoint clauses) (sym (ap (up_to low) back ∙ back_twice low level old (omega arith))) (settled low (omega arith))
 
 -- ---- a learned clause
+
+-- what was assigned at a higher level is unset again
+unset_above : (trail : Assigned) (level : ℕ) (lit : Lit) → IsTrail trail → level < level_at trail.steps lit → value_of (up_to level trail.steps) lit ≡ Unset
+unset_above trail level lit is above =
+    (values_after_back trail level lit is).unset (go (level_of trail.steps (variable lit)) above)
+  where
+    go : (o : Option ℕ) → level < unwrap_or o 0 → ¬ IsSomeAnd o (λ at. at ≤ level)
+    go None higher by = by
+    go (Some at) higher by = absurd (omega (arith, higher, by))
 
 -- a clause that was learned on a trail, and the level to which it goes back
 pub record IsLearnedOn (trail : Assigned) (clause : List Lit) (lit : Lit) (back : ℕ) : Type 0 where
@@ -136,7 +145,7 @@ pub settled_learned : (old new : List (List Lit)) (trail back_trail : Assigned) 
     → back_trail.steps ≡ up_to back trail.steps → present_level back_trail.steps ≡ back → new ≡ old ++ clause ∷ [] → AreSettledBelow new back_trail.steps
 settled_learned old new trail back_trail clause lit back is settled steps present added level below =
     let bound = is.below in
-    let there : up_to level back_trail.steps ≡ up_to level trail.steps = ap (up_to level) steps ∙ up_to_twice level back trail.steps (omega arith) in
+    let there : up_to level back_trail.steps ≡ up_to level trail.steps = ap (up_to level) steps ∙ back_twice level back trail.steps (omega arith) in
     subst (λ clauses. IsFixpoint clauses (up_to level back_trail.steps)) (sym added)
     (subst (IsFixpoint (old ++ clause ∷ [])) (sym there)
     (All-push (IsQuietOn (up_to level trail.steps)) old clause (settled level (omega arith)) (quiet_below trail clause lit back level is (omega arith))))

@@ -4,4 +4,5 @@ pub mod WatchedLemmas
 pub mod HoldLemmas
 pub mod PassLemmas
 pub mod ClosureLemmas
+pub mod TotalLemmas
 pub mod AttachLemmas

@@ -4,9 +4,9 @@ use Rattle.clause_store.specs.declared.literal.Lit.{Lit}
 use Rattle.clause_store.specs.declared.literal.ClauseRef.{ClauseRef}
 use Rattle.clause_store.specs.declared.literal.Value.TheVariants.{Yes}
 use Rattle.clause_store.specs.declared.step.Step.{Step}
-use Rattle.clause_store.specs.Clause.{IsOver, AreOver}
+use Rattle.clause_store.specs.Clause.{IsOver, AreOver, Meets}
 use Rattle.clause_store.specs.Entailment.{Absorbs, InClosure, Refutes}
-use Rattle.clause_store.specs.Trail.{Assigned, IsTrail, IsTrailOf, value_of}
+use Rattle.clause_store.specs.Trail.{Assigned, IsTrail, IsTrailOf, IsTotal, value_of, values_of}
 use Rattle.clause_store.specs.Standing.{AreOn, IsFalse, IsUnitOn}
 use Rattle.propagator.specs.Watched.{Watched, IsAttached, IsReady}
 use Rattle.propagator.specs.Fixpoint.{Extends, IsFixpoint}
@@ -78,3 +78,9 @@ abbrev pub FixpointAbsorbsNoUnit : Type 0
 FixpointAbsorbsNoUnit =
     (trail : Assigned) (clauses : List (List Lit)) (clause : List Lit) (lit : Lit) → IsTrail trail → IsFixpoint clauses trail.steps
     → IsUnitOn trail.steps clause lit → ¬ Absorbs clauses clause
+
+-- the assignment of a total trail at a fixpoint meets the clauses
+abbrev pub TotalFixpointMeets : Type 0
+TotalFixpointMeets =
+    (trail : Assigned) (clauses : List (List Lit)) → IsTotal trail → AreOver trail.vars clauses
+    → IsFixpoint clauses trail.steps → Meets (values_of trail) clauses

@@ -2,7 +2,8 @@
 // nothing when they run.
 ghost use Rattle.propagator.specs.Laws.{ReadyWithMore, ReadyWithClause, ReadyWithAgain, ReadyWithNext, ReadyAfterRewind};
 ghost use Rattle.propagator.specs.Laws.{ExtendingGoesOn, ReasonsHold};
-ghost use Rattle.propagator.specs.Laws.{FixpointHasClosure, FixpointRefutesNone, FixpointAbsorbsNoUnit};
+ghost use Rattle.propagator.specs.Laws.{FixpointHasClosure, FixpointRefutesNone};
+ghost use Rattle.propagator.specs.Laws.{FixpointAbsorbsNoUnit, TotalFixpointMeets};
 
 /// A store, a trail and watches stay ready for propagation when assignments come last.
 pub fn ready_with_more()
@@ -52,4 +53,9 @@ pub fn fixpoint_refutes_none()
 /// A clause that is a unit at a fixpoint of other clauses isn't absorbed by them.
 pub fn fixpoint_absorbs_no_unit()
     ensures { FixpointAbsorbsNoUnit }
+{}
+
+/// The assignment of a total trail at a fixpoint meets the clauses.
+pub fn total_fixpoint_meets()
+    ensures { TotalFixpointMeets }
 {}
