@@ -1,5 +1,5 @@
 -- What a search keeps on its way, and what it answers.
-use Rattle.std.specs.Prelude.{◌≡◌, ◌≢◌, ◌<◌, ◌⊎◌, ◌↔◌, ◌++◌, ℕ, Bool, List, length, take, slice_get, All, Contains, None, Some}
+use Rattle.std.specs.Prelude.{◌≡◌, ◌≢◌, ◌<◌, ◌+◌, ◌⊎◌, ◌↔◌, ◌++◌, ℕ, Bool, List, length, take, slice_get, All, Contains, None, Some}
 use Rattle.clause_store.specs.declared.literal.Lit.{Lit}
 use Rattle.clause_store.specs.declared.literal.Value.TheVariants.{Yes}
 use Rattle.clause_store.specs.declared.step.Step.{Step}
@@ -53,6 +53,16 @@ pub record GoesOn (assumed : List Lit) (clauses more : List (List Lit)) (old new
   pub units : AddsUnits clauses more
   pub first : AreAssumedFirst assumed old.steps → AreAssumedFirst assumed new.steps
   pub settled : AreSettledBelow clauses old.steps → AreSettledBelow more new.steps
+
+-- the clauses are as many, and the assignments are more
+pub record IsLonger (clauses more : List (List Lit)) (old new : List Step) : Type 0 where
+  pub same : length more ≡ length clauses
+  pub steps : length old < length new
+
+-- a search came nearer to its end: it has one clause more, or more assignments
+abbrev pub IsNearer : List (List Lit) → List (List Lit) → List Step → List Step → Type 0
+IsNearer clauses more old new =
+    (length more ≡ length clauses + 1) ⊎ IsLonger clauses more old new
 
 -- the assignments of a trail meet the clauses, and make the assumed literals true
 pub record IsModel (clauses : List (List Lit)) (assumed : List Lit) (trail : Assigned) : Type 0 where

@@ -1,6 +1,6 @@
 // The plainest search by conflicts: it propagates, then learns from a clause that is false, or
 // makes the next assumed literal true, or else the next variable false.
-ghost use Rattle.std.specs.Prelude.{◌≡◌, ◌<◌, ◌≤◌, ◌^◌, ◌∷◌, [], ◌++◌};
+ghost use Rattle.std.specs.Prelude.{◌≡◌, ◌<◌, ◌≤◌, ◌^◌, ◌∷◌, [], ◌++◌, ◌+◌, IfNone, length};
 ghost use Rattle.std.specs.Prelude.{List, All, OnOk, IfOk, IfSome};
 ghost use Rattle.clause_store.specs.Clause.{IsClause, IsOver};
 ghost use Rattle.clause_store.specs.Standing.{IsConflict};
@@ -8,7 +8,7 @@ ghost use Rattle.clause_store.specs.Trail.{IsTrail, present_level, up_to};
 ghost use Rattle.propagator.specs.Watched.{IsReady};
 ghost use Rattle.propagator.specs.Fixpoint.{IsFixpoint};
 ghost use Rattle.learning_trials.specs.Search.{AreAssumedFirst, AreSettledBelow, AreTrue};
-ghost use Rattle.learning_trials.specs.Search.{AddsUnits, GoesOn, IsAnswer, IsNotTrueAt};
+ghost use Rattle.learning_trials.specs.Search.{AddsUnits, GoesOn, IsAnswer, IsLonger, IsNearer, IsNotTrueAt};
 
 use crate::steering::{first_not_true, greatest_level, know_trail, least_unset};
 use clause_store::{Clause, ClauseRef, Lit, NoMemory, Store, Trail, Value};
@@ -40,6 +40,7 @@ impl Search {
         requires { vars < 2 ^ 31 }
         ensures ready { IfOk result (λ it. IsReady it.store it.trail it.watches) }
         ensures vars { IfOk result (λ it. it.trail.vars ≡ vars) }
+        ensures learned { IfOk result (λ it. it.learned ≡ learned) }
     {
         let trail = Trail::open(alloc, vars)?;
         let watches = Watches::open(alloc, vars)?;
@@ -52,7 +53,9 @@ impl Search {
     }
 
     /// The place for what conflicts teach, for another search.
-    pub fn into_learned(self) -> Learned {
+    pub fn into_learned(self) -> Learned
+        ensures { result ≡ self.learned }
+    {
         self.learned
     }
 
@@ -69,8 +72,8 @@ impl Search {
         self.watches.attach(alloc, &self.store, &self.trail, at)
     }
 
-    /// Whether all clauses and assumed literals can be met. None: more conflicts came than are
-    /// allowed. After want of memory the search may not be used any more.
+    /// Whether all clauses and assumed literals can be met. None: more clauses were learned than
+    /// `conflicts`. After want of memory the search may not be used any more.
     pub fn solve(
         &mut self,
         alloc: Global,
@@ -84,17 +87,16 @@ impl Search {
         ensures units { OnOk result (AddsUnits self.old.store self.new.store) }
         ensures answer { IfOk result (λ it.
             IfSome it (IsAnswer self.old.store assumed.now self.new.trail)) }
+        ensures none { IfOk result (λ it.
+            IfNone it (length self.old.store + conflicts < length self.new.store)) }
     {
         self.go_back(0);
         let full = self.store.len().saturating_add(conflicts as usize);
-        let turns = (conflicts as u64 + 1) * (self.trail.vars() as u64 + 1);
-        'turns: for _ in 0..turns {
+        'turns: while self.store.len() <= full {
             if let Some(answer) = self.turn(alloc, assumed)? {
                 return Ok(Some(answer));
             }
-            if self.store.len() > full {
-                return Ok(None);
-            }
+            know_trail(&self.trail);
         }
         Ok(None)
     }
@@ -110,6 +112,8 @@ impl Search {
             GoesOn assumed.now self.old.store self.new.store self.old.trail self.new.trail) }
         ensures answer { IfOk result (λ it.
             IfSome it (IsAnswer self.old.store assumed.now self.new.trail)) }
+        ensures nearer { IfOk result (λ it. IfNone it (
+            IsNearer self.old.store self.new.store self.old.trail.steps self.new.trail.steps)) }
     {
         match propagate(&self.store, &mut self.trail, &mut self.watches) {
             Some(conflict) => self.learn_from(alloc, conflict),
@@ -128,6 +132,8 @@ impl Search {
             GoesOn assumed self.old.store self.new.store self.old.trail self.new.trail) }
         ensures answer { IfOk result (λ it. IfSome it (λ answer. (assumed : List Lit) →
             IsAnswer self.old.store assumed self.new.trail answer)) }
+        ensures nearer { IfOk result (λ it. IfNone it (
+            length self.new.store ≡ length self.old.store + 1)) }
     {
         know_trail(&self.trail);
         let level = greatest_level(&self.trail, self.store.lits(conflict));
@@ -173,6 +179,8 @@ impl Search {
             GoesOn assumed.now self.old.store self.new.store self.old.trail self.new.trail) }
         ensures answer { IfOk result (λ it.
             IfSome it (IsAnswer self.old.store assumed.now self.new.trail)) }
+        ensures nearer { IfOk result (λ it. IfNone it (
+            IsLonger self.old.store self.new.store self.old.trail.steps self.new.trail.steps)) }
     {
         match first_not_true(&self.trail, assumed) {
             Some(at) => self.assume(alloc, assumed, at),
@@ -197,6 +205,8 @@ impl Search {
             GoesOn assumed.now self.old.store self.new.store self.old.trail self.new.trail) }
         ensures answer { IfOk result (λ it.
             IfSome it (IsAnswer self.old.store assumed.now self.new.trail)) }
+        ensures nearer { IfOk result (λ it. IfNone it (
+            IsLonger self.old.store self.new.store self.old.trail.steps self.new.trail.steps)) }
     {
         let lit = assumed[at];
         if let Value::Unset = self.trail.value(lit) {
@@ -217,6 +227,8 @@ impl Search {
         ensures ready { IsReady self.new.store self.new.trail self.new.watches }
         ensures on { GoesOn assumed.now self.old.store self.new.store self.old.trail self.new.trail }
         ensures answer { IfSome result (IsAnswer self.old.store assumed.now self.new.trail) }
+        ensures nearer { IfNone result (
+            IsLonger self.old.store self.new.store self.old.trail.steps self.new.trail.steps) }
     {
         match least_unset(&self.trail) {
             Some(lit) => {

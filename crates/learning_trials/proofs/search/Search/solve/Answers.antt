@@ -1,4 +1,5 @@
-use Rattle.std.proofs.Common.{subst}
+use Rattle.std.proofs.Common.{subst, arith}
+use Rattle.learning_trials.proofs.TurnLemmas.{fewer_turns, without_answer}
 use Rattle.std.specs.Prelude.{IfSome}
 use Rattle.learning_trials.specs.Search.{IsAnswer}
 use Rattle.learning_trials.proofs.GoingLemmas.{first_at_start, goes_on}
@@ -34,7 +35,8 @@ returns-in-Some-clause-units c =
     (goes_on c.args.assumed.now c.args.self.now.store c.turns.self.store c.turn.new.self.store c.args.self.now.trail c.turns.self.trail c.turn.new.self.trail
     c.turns.invariant.on c.in_ok-answer.ensures.on).units
 
-pub returns-then-len-full-clause-units : goal.returns-then-len-full-clause-units
-returns-then-len-full-clause-units c =
-    (goes_on c.args.assumed.now c.args.self.now.store c.turns.self.store c.turn.new.self.store c.args.self.now.trail c.turns.self.trail c.turn.new.self.trail
-    c.turns.invariant.on c.in_ok-answer.ensures.on).units
+pub turns-smaller : goal.turns-smaller
+turns-smaller c =
+    fewer_turns c.saturating_add-full.result c.turns.self.store c.turn.new.self.store c.turns.self.trail c.turn.new.self.trail
+    (omega (arith, c.turns-test.true, c.len-in-turns.ensures)) c.know_trail.ensures c.in_ok-answer.ensures.on.vars
+    (without_answer c.in_ok-answer.field-0 c.in_ok-answer.ensures.nearer (λ x is. c.in_default.not-Some x is))
