@@ -52,8 +52,9 @@ pub fn analyse(
     Ok(())
 }
 
-/// The greatest level of the literals, or 0.
-fn greatest_level(trail: &Trail, lits: &[Lit]) -> u32
+/// The greatest level of the literals, or 0. A search goes back to it before it learns from a clause
+/// that is false.
+pub fn greatest_level(trail: &Trail, lits: &[Lit]) -> u32
     requires { All (IsOver trail.now.vars) lits.now }
     ensures { result ≡ greatest_level trail.now.steps lits.now }
 {

@@ -9,7 +9,7 @@ mod marks;
 mod refusal;
 mod walk;
 
-pub use analysis::analyse;
+pub use analysis::{analyse, greatest_level};
 pub use learned::Learned;
 pub use refusal::final_core;
 

@@ -10,9 +10,9 @@ ghost use Rattle.propagator.specs.Fixpoint.{IsFixpoint};
 ghost use Rattle.learning_trials.specs.Search.{AreAssumedFirst, AreSettledBelow, AreTrue};
 ghost use Rattle.learning_trials.specs.Search.{AddsUnits, GoesOn, IsAnswer, IsLonger, IsNearer, IsNotTrueAt};
 
-use crate::steering::{first_not_true, greatest_level, know_trail, least_unset};
+use crate::steering::{first_not_true, know_trail, least_unset};
 use clause_store::{Clause, ClauseRef, Lit, NoMemory, Store, Trail, Value};
-use conflict_learning::{Learned, analyse, final_core};
+use conflict_learning::{Learned, analyse, final_core, greatest_level};
 use propagator::{Watches, propagate};
 use std::alloc::Global;
 

@@ -1,23 +1,10 @@
-// What steers a search: where a conflict stands, and what is to be decided next.
+// What steers a search: what is to be decided next.
 ghost use Rattle.std.specs.Prelude.{◌≡◌, ◌≢◌, ◌<◌, length, All, IfNone, IfSome};
 ghost use Rattle.clause_store.specs.Clause.{IsOver};
 ghost use Rattle.clause_store.specs.Trail.{IsTotal, IsTrail, value_of};
-ghost use Rattle.conflict_learning.specs.Analysis.{greatest_level};
 ghost use Rattle.learning_trials.specs.Search.{AreTrue, IsNotTrueAt};
 
 use clause_store::{Lit, Trail, Value, Var};
-
-/// The greatest level of the literals, or 0.
-pub fn greatest_level(trail: &Trail, lits: &[Lit]) -> u32
-    requires { All (IsOver trail.now.vars) lits.now }
-    ensures { result ≡ greatest_level trail.now.steps lits.now }
-{
-    let mut greatest: u32 = 0;
-    for lit in lits {
-        greatest = greatest.max(trail.level_of(lit.var()).unwrap_or(0));
-    }
-    greatest
-}
 
 /// The place of the first literal that isn't true.
 pub fn first_not_true(trail: &Trail, lits: &[Lit]) -> Option<usize>
