@@ -15,10 +15,6 @@ IsMarked marks var = IsTrue (is_marked marks var)
 abbrev pub HasNoMark : List Bool → Type 0
 HasNoMark marks = (var : ℕ) → is_marked marks var ≡ false
 
--- whether the variable of an assignment is marked
-abbrev pub has_mark : List Bool → Step → Bool
-has_mark marks step = is_marked marks (variable step.lit)
-
 -- whether an assignment is marked and of a level
 abbrev pub is_open : List Bool → ℕ → Step → Bool
 is_open marks level step = is_marked marks (variable step.lit) && (step.level == level)

@@ -12,6 +12,7 @@ pub struct Learned {
     pub back: u32,
     /// The one literal of the clause that is of the present level.
     pub asserting: Lit,
+    /// The table of marks that the next conflict finds.
     pub(crate) marks: Marks,
 }
 
