@@ -3,7 +3,7 @@
 ghost use Rattle.std.specs.Prelude.{◌≡◌, [], ◌∷◌, ◌++◌, ◌<◌, length, take, slice_get, slice_set, Some, OnOk, OnErr, IfOk};
 
 use crate::Lit;
-use plain_list::{Copied, List, NoMemory};
+use item_list::{Copied, List, NoMemory};
 use smallvec::SmallVec;
 use std::alloc::Global;
 use std::marker::Model;

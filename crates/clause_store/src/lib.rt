@@ -14,7 +14,7 @@ mod trail;
 pub use budget::Budget;
 pub use clause::{Clause, Units};
 pub use literal::{ClauseRef, Lit, Value, Var};
-pub use plain_list::{Copied, List, NoMemory};
+pub use item_list::{Copied, List, NoMemory};
 pub use says::{Says, Short};
 pub use step::Step;
 pub use store::Store;

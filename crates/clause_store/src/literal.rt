@@ -2,7 +2,7 @@
 ghost use Rattle.std.specs.Prelude.{◌≡◌, ◌+◌, ◌*◌, ◌<◌, ◌↔◌, ◌^◌, IsTrue};
 ghost use Rattle.clause_store.specs.Clause.{variable, negation, is_negated};
 
-use plain_list::{Copied, NoMemory};
+use item_list::{Copied, NoMemory};
 use std::alloc::Global;
 
 /// A variable. Variable 0 isn't used.

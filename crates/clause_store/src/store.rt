@@ -6,7 +6,7 @@ ghost use Rattle.clause_store.specs.Trail.{KeepsTrails};
 ghost use Rattle.clause_store.specs.Layout.{IsLonger};
 
 use crate::{ClauseRef, Lit};
-use plain_list::{List, NoMemory};
+use item_list::{List, NoMemory};
 use std::alloc::Global;
 use std::marker::Model;
 

@@ -7,7 +7,7 @@ ghost use Rattle.clause_store.specs.Trail.{IsTrail, IsTrailOf, IsReasonFor, Stay
 ghost use Rattle.clause_store.specs.Arrays.{IsWithoutLast};
 
 use crate::{ClauseRef, Lit, Step, Store, Value, Var};
-use plain_list::NoMemory;
+use item_list::NoMemory;
 use std::alloc::Global;
 use std::marker::Model;
 

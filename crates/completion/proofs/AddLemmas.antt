@@ -8,7 +8,7 @@ use Rattle.std.proofs.lemmas.List.Folds.{list_any_at}
 use Rattle.clause_store.specs.declared.literal.Lit.{Lit}
 use Rattle.clause_store.specs.Clause.{variable, negation, IsClause}
 use Rattle.clause_store.proofs.LiteralLemmas.{lit_of_code}
-use Rattle.rule_normaliser.specs.Clauses.{is_lit, has_lit, each_once, is_tautology, cleaned}
+use Rattle.normal_program.specs.Clauses.{is_lit, has_lit, each_once, is_tautology, cleaned}
 use Rattle.completion.specs.Filling.{coded}
 use Rattle.completion.proofs.CleanLemmas.{kept_from, once_from}
 

@@ -7,11 +7,11 @@ use Rattle.ground_program.specs.Meaning.{counts}
 use Rattle.clause_store.specs.declared.literal.Lit.{Lit}
 use Rattle.clause_store.specs.Clause.{negation, truth, makes_true, HoldsIn}
 use Rattle.clause_store.proofs.LiteralLemmas.{has_first, first_or_later, has_mapped, mapped_from, any_or_none}
-use Rattle.rule_normaliser.specs.declared.normal.Part.{Part}
-use Rattle.rule_normaliser.specs.declared.normal.BodyOf.{BodyOf}
-use Rattle.rule_normaliser.specs.Body.{is_conjunctive, full_weight, part_weight, weight_of, body_holds}
-use Rattle.rule_normaliser.specs.Clauses.{positive, negative, all_clauses}
-use Rattle.rule_normaliser.proofs.SumLemmas.{sum_by-agree}
+use Rattle.normal_program.specs.declared.normal.Part.{Part}
+use Rattle.normal_program.specs.declared.normal.BodyOf.{BodyOf}
+use Rattle.normal_program.specs.Body.{is_conjunctive, full_weight, part_weight, weight_of, body_holds}
+use Rattle.normal_program.specs.Clauses.{positive, negative, all_clauses}
+use Rattle.normal_program.proofs.SumLemmas.{sum_by-agree}
 use Rattle.completion.proofs.TruthLemmas.{makes_true-positive, makes_true-negative, makes_true-negation, HoldsIn-here, HoldsIn-there, HoldsIn-cases, HoldsIn-by}
 
 -- where a sum reaches one that is nowhere less, they agree everywhere

@@ -6,7 +6,7 @@ use Rattle.std.proofs.lemmas.List.Folds.{Any-from_list_any}
 use Rattle.clause_store.specs.declared.literal.Lit.{Lit}
 use Rattle.clause_store.specs.Clause.{negation, makes_true, IsTrueIn, HoldsIn, Meets}
 use Rattle.clause_store.proofs.LiteralLemmas.{lit_of_code, cases_lit, has_first, has_later, first_or_later, has_kept, has_mapped, mapped_from, any_through}
-use Rattle.rule_normaliser.specs.Clauses.{is_lit, has_lit, each_once, is_tautology, cleaned}
+use Rattle.normal_program.specs.Clauses.{is_lit, has_lit, each_once, is_tautology, cleaned}
 use Rattle.completion.proofs.TruthLemmas.{makes_true-negation, HoldsIn-by}
 
 module _ {X : Type 0} where

@@ -11,17 +11,17 @@ use Rattle.ground_program.specs.Program.{HeadsFit}
 use Rattle.clause_store.specs.declared.literal.Lit.{Lit}
 use Rattle.clause_store.specs.Clause.{truth, makes_true, HoldsIn, Meets}
 use Rattle.clause_store.proofs.LiteralLemmas.{first_or_later, mapped_from}
-use Rattle.rule_normaliser.specs.declared.normal.Part.{Part}
-use Rattle.rule_normaliser.specs.declared.normal.BodyOf.{BodyOf}
-use Rattle.rule_normaliser.specs.declared.normal.NormalRule.{NormalRule}
-use Rattle.rule_normaliser.specs.declared.normal.Normal.{Normal}
-use Rattle.rule_normaliser.specs.Body.{is_conjunctive, body_holds}
-use Rattle.rule_normaliser.specs.Normal.{body_var, extension, KeepsN, IsAnswerSetN}
-use Rattle.rule_normaliser.specs.Clauses.{positive, negative, literal_of, literals_of, all_clauses, numbered_bodies, body_clauses, is_choice, rule_clauses, support_clause, numbers_from, atoms_of_normal, alone, compute_clauses, base_clauses, IsEntailed}
-use Rattle.rule_normaliser.specs.Limit.{IsNormal}
-use Rattle.rule_normaliser.specs.Loop.{IsAtomOf}
-use Rattle.rule_normaliser.specs.Range.{IsInRange}
-use Rattle.rule_normaliser.proofs.RangeLemmas.{IsNormal-in_range, All-unmap}
+use Rattle.normal_program.specs.declared.normal.Part.{Part}
+use Rattle.normal_program.specs.declared.normal.BodyOf.{BodyOf}
+use Rattle.normal_program.specs.declared.normal.NormalRule.{NormalRule}
+use Rattle.normal_program.specs.declared.normal.Normal.{Normal}
+use Rattle.normal_program.specs.Body.{is_conjunctive, body_holds}
+use Rattle.normal_program.specs.Normal.{body_var, extension, KeepsN, IsAnswerSetN}
+use Rattle.normal_program.specs.Clauses.{positive, negative, literal_of, literals_of, all_clauses, numbered_bodies, body_clauses, is_choice, rule_clauses, support_clause, numbers_from, atoms_of_normal, alone, compute_clauses, base_clauses, IsEntailed}
+use Rattle.normal_program.specs.Limit.{IsNormal}
+use Rattle.normal_program.specs.Loop.{IsAtomOf}
+use Rattle.normal_program.specs.Range.{IsInRange}
+use Rattle.normal_program.proofs.RangeLemmas.{IsNormal-in_range, All-unmap}
 use Rattle.completion.proofs.TruthLemmas.{makes_true-positive, makes_true-negative, makes_true-literal_of, HoldsIn-here}
 use Rattle.completion.proofs.CleanLemmas.{flat_from, cleaned_hold}
 use Rattle.completion.proofs.BodyLemmas.{holds-all, all-holds, all_clauses-hold}

@@ -1,7 +1,7 @@
 -- How gains of a store add up.
 use Rattle.std.specs.List.{enumerate_from}
 use Rattle.std.proofs.lemmas.List.FromFn.{get_or-enumerate_from}
-use Rattle.rule_normaliser.specs.declared.normal.BodyOf.{BodyOf}
+use Rattle.normal_program.specs.declared.normal.BodyOf.{BodyOf}
 use Rattle.std.proofs.Common.{flat_map, zero-add, Result, Ok, Err, OnOk, OnErr, Bool, true, false, ◌≤◌, All, if◌then◌else◌, not, append-nil, ◌≡◌, ◌<◌, ◌+◌, ℕ, List, [], ◌∷◌, ◌++◌, length, get_or, map, filter, take, drop, take-append-drop, append_assoc, refl, sym, ap, subst, ◌∙◌, arith}
 use Rattle.std.proofs.lemmas.List.{take_more, map-append}
 use Rattle.std.proofs.lemmas.List.Elements.{filter-append, All-cons, All-map}
@@ -10,10 +10,10 @@ use Rattle.clause_store.specs.Clause.{variable, negation}
 use Rattle.clause_store.specs.Trail.{KeepsTrails}
 use Rattle.clause_store.proofs.LiteralLemmas.{variable-negation}
 use Rattle.clause_store.proofs.TrailLemmas.{slice_get-append}
-use Rattle.rule_normaliser.specs.declared.normal.Part.{Part}
+use Rattle.normal_program.specs.declared.normal.Part.{Part}
 use Rattle.clause_store.specs.declared.literal.Lit.{Lit}
-use Rattle.rule_normaliser.specs.Clauses.{positive, negative, literal_of, literals_of, each_once, is_tautology, cleaned, base_clauses, body_clauses, numbered_bodies, rule_clauses, support_clause, atoms_of_normal, compute_clauses}
-use Rattle.rule_normaliser.specs.declared.normal.Normal.{Normal}
+use Rattle.normal_program.specs.Clauses.{positive, negative, literal_of, literals_of, each_once, is_tautology, cleaned, base_clauses, body_clauses, numbered_bodies, rule_clauses, support_clause, atoms_of_normal, compute_clauses}
+use Rattle.normal_program.specs.declared.normal.Normal.{Normal}
 use Rattle.completion.specs.Filling.{Gains, GainsFirst, IsVar}
 
 -- clauses are cleaned one by one

@@ -10,15 +10,15 @@ use Rattle.ground_program.specs.Meaning.{has, IsSetOver}
 use Rattle.clause_store.specs.declared.literal.Lit.{Lit}
 use Rattle.clause_store.specs.Clause.{truth, makes_true, HoldsIn, Meets}
 use Rattle.clause_store.proofs.LiteralLemmas.{has_first, has_mapped}
-use Rattle.rule_normaliser.specs.declared.normal.BodyOf.{BodyOf}
-use Rattle.rule_normaliser.specs.declared.normal.Normal.{Normal}
-use Rattle.rule_normaliser.specs.Body.{is_conjunctive, body_holds}
-use Rattle.rule_normaliser.specs.Normal.{body_var, extension, KeepsAllN, MeetsComputeN}
-use Rattle.rule_normaliser.specs.Clauses.{positive, negative, literals_of, all_clauses, numbered_bodies, body_clauses, is_choice, rule_clauses, support_clause, atoms_of_normal, alone, compute_clauses, base_clauses}
-use Rattle.rule_normaliser.specs.Limit.{IsNormal}
-use Rattle.rule_normaliser.specs.Loop.{IsAtomOf}
-use Rattle.rule_normaliser.specs.Range.{IsInRange}
-use Rattle.rule_normaliser.proofs.RangeLemmas.{IsNormal-in_range}
+use Rattle.normal_program.specs.declared.normal.BodyOf.{BodyOf}
+use Rattle.normal_program.specs.declared.normal.Normal.{Normal}
+use Rattle.normal_program.specs.Body.{is_conjunctive, body_holds}
+use Rattle.normal_program.specs.Normal.{body_var, extension, KeepsAllN, MeetsComputeN}
+use Rattle.normal_program.specs.Clauses.{positive, negative, literals_of, all_clauses, numbered_bodies, body_clauses, is_choice, rule_clauses, support_clause, atoms_of_normal, alone, compute_clauses, base_clauses}
+use Rattle.normal_program.specs.Limit.{IsNormal}
+use Rattle.normal_program.specs.Loop.{IsAtomOf}
+use Rattle.normal_program.specs.Range.{IsInRange}
+use Rattle.normal_program.proofs.RangeLemmas.{IsNormal-in_range}
 use Rattle.completion.specs.Completion.{IsTotal, set_of, MeansWeightBodies, IsModelOf, MakeModels}
 use Rattle.completion.proofs.TruthLemmas.{makes_true-positive, makes_true-negative, HoldsIn-cases}
 use Rattle.completion.proofs.CleanLemmas.{flat_has, hold_from_cleaned}

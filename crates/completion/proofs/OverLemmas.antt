@@ -5,17 +5,17 @@ use Rattle.std.proofs.lemmas.Option.{slice_get_within, get_or_from_slice_get}
 use Rattle.clause_store.specs.declared.literal.Lit.{Lit}
 use Rattle.clause_store.specs.Clause.{negation, IsOver, AreOver}
 use Rattle.clause_store.proofs.LiteralLemmas.{variable-negation}
-use Rattle.rule_normaliser.specs.declared.normal.Part.{Part}
-use Rattle.rule_normaliser.specs.declared.normal.BodyOf.{BodyOf}
-use Rattle.rule_normaliser.specs.declared.normal.NormalRule.{NormalRule}
-use Rattle.rule_normaliser.specs.declared.normal.Normal.{Normal}
-use Rattle.rule_normaliser.specs.Body.{is_conjunctive}
-use Rattle.rule_normaliser.specs.Normal.{body_var, greatest_body_var}
-use Rattle.rule_normaliser.specs.Clauses.{positive, negative, literal_of, literals_of, each_once, is_tautology, cleaned, all_clauses, numbered_bodies, body_clauses, is_choice, rule_clauses, has_atom, support_clause, atoms_of_normal, alone, compute_clauses, base_clauses}
-use Rattle.rule_normaliser.specs.Limit.{IsNormal}
-use Rattle.rule_normaliser.specs.Loop.{IsAtomOf}
-use Rattle.rule_normaliser.specs.Range.{IsInRange}
-use Rattle.rule_normaliser.proofs.RangeLemmas.{IsNormal-in_range}
+use Rattle.normal_program.specs.declared.normal.Part.{Part}
+use Rattle.normal_program.specs.declared.normal.BodyOf.{BodyOf}
+use Rattle.normal_program.specs.declared.normal.NormalRule.{NormalRule}
+use Rattle.normal_program.specs.declared.normal.Normal.{Normal}
+use Rattle.normal_program.specs.Body.{is_conjunctive}
+use Rattle.normal_program.specs.Normal.{body_var, greatest_body_var}
+use Rattle.normal_program.specs.Clauses.{positive, negative, literal_of, literals_of, each_once, is_tautology, cleaned, all_clauses, numbered_bodies, body_clauses, is_choice, rule_clauses, has_atom, support_clause, atoms_of_normal, alone, compute_clauses, base_clauses}
+use Rattle.normal_program.specs.Limit.{IsNormal}
+use Rattle.normal_program.specs.Loop.{IsAtomOf}
+use Rattle.normal_program.specs.Range.{IsInRange}
+use Rattle.normal_program.proofs.RangeLemmas.{IsNormal-in_range}
 use Rattle.completion.proofs.CleanLemmas.{once_from}
 use Rattle.completion.proofs.GainLemmas.{variable-positive, variable-negative, variable-literal_of}
 use Rattle.completion.proofs.EntailedLemmas.{numbered_at, numbers_within}

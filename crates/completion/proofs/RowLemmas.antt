@@ -7,10 +7,10 @@ use Rattle.std.proofs.lemmas.List.Folds.{list_any_at}
 use Rattle.std.proofs.lemmas.List.Concat.{flat_map-append}
 use Rattle.clause_store.specs.declared.literal.Lit.{Lit}
 use Rattle.clause_store.specs.Clause.{variable}
-use Rattle.rule_normaliser.specs.declared.normal.NormalRule.{NormalRule}
-use Rattle.rule_normaliser.specs.declared.normal.Normal.{Normal}
-use Rattle.rule_normaliser.specs.Normal.{body_var}
-use Rattle.rule_normaliser.specs.Clauses.{positive, negative, is_lit, has_lit, has_atom, each_once, is_tautology, cleaned, support_clause, numbers_from}
+use Rattle.normal_program.specs.declared.normal.NormalRule.{NormalRule}
+use Rattle.normal_program.specs.declared.normal.Normal.{Normal}
+use Rattle.normal_program.specs.Normal.{body_var}
+use Rattle.normal_program.specs.Clauses.{positive, negative, is_lit, has_lit, has_atom, each_once, is_tautology, cleaned, support_clause, numbers_from}
 use Rattle.completion.specs.Filling.{supports_of}
 use Rattle.completion.specs.Rows.{AreSupports, NotesAll}
 use Rattle.completion.proofs.AddLemmas.{each_once-push, cleaned-one}

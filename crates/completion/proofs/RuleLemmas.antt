@@ -10,14 +10,14 @@ use Rattle.ground_program.specs.Meaning.{has, IsIn, HeadHolds}
 use Rattle.ground_program.specs.Program.{HeadsFit}
 use Rattle.clause_store.specs.Clause.{truth, makes_true, HoldsIn}
 use Rattle.clause_store.proofs.LiteralLemmas.{has_mapped, mapped_from, any_from}
-use Rattle.rule_normaliser.specs.declared.normal.BodyOf.{BodyOf}
-use Rattle.rule_normaliser.specs.declared.normal.NormalRule.{NormalRule}
-use Rattle.rule_normaliser.specs.declared.normal.Normal.{Normal}
-use Rattle.rule_normaliser.specs.Body.{body_holds, weight_of, BodyHoldsN}
-use Rattle.rule_normaliser.specs.Normal.{body_var, RuleBodyHolds, KeepsN}
-use Rattle.rule_normaliser.specs.Clauses.{positive, negative, is_choice}
-use Rattle.rule_normaliser.specs.Loop.{IsAtomOf}
-use Rattle.rule_normaliser.proofs.ListLemmas.{IsSomeAnd-found}
+use Rattle.normal_program.specs.declared.normal.BodyOf.{BodyOf}
+use Rattle.normal_program.specs.declared.normal.NormalRule.{NormalRule}
+use Rattle.normal_program.specs.declared.normal.Normal.{Normal}
+use Rattle.normal_program.specs.Body.{body_holds, weight_of, BodyHoldsN}
+use Rattle.normal_program.specs.Normal.{body_var, RuleBodyHolds, KeepsN}
+use Rattle.normal_program.specs.Clauses.{positive, negative, is_choice}
+use Rattle.normal_program.specs.Loop.{IsAtomOf}
+use Rattle.normal_program.proofs.ListLemmas.{IsSomeAnd-found}
 use Rattle.completion.proofs.TruthLemmas.{makes_true-positive, makes_true-negative, HoldsIn-here, HoldsIn-there, HoldsIn-cases, HoldsIn-by}
 
 -- an assignment reads a set: the variables of atoms and bodies are as in the extension of the set

@@ -10,13 +10,13 @@ use Rattle.ground_program.specs.Meaning.{has, IsIn, counts, HeadHolds, IsPart, I
 use Rattle.ground_program.proofs.MeaningLemmas.{counts-mono}
 use Rattle.clause_store.specs.Clause.{HoldsIn}
 use Rattle.clause_store.proofs.LiteralLemmas.{has_kept, has_mapped}
-use Rattle.rule_normaliser.specs.declared.normal.BodyOf.{BodyOf}
-use Rattle.rule_normaliser.specs.declared.normal.NormalRule.{NormalRule}
-use Rattle.rule_normaliser.specs.declared.normal.Normal.{Normal}
-use Rattle.rule_normaliser.specs.Body.{part_weight, weight_of, BodyHoldsN}
-use Rattle.rule_normaliser.specs.Normal.{body_var, RuleBodyHolds, KeepsN, IsAnswerSetN}
-use Rattle.rule_normaliser.specs.Clauses.{positive, negative, has_atom, support_clause}
-use Rattle.rule_normaliser.specs.Loop.{IsAtomOf}
+use Rattle.normal_program.specs.declared.normal.BodyOf.{BodyOf}
+use Rattle.normal_program.specs.declared.normal.NormalRule.{NormalRule}
+use Rattle.normal_program.specs.declared.normal.Normal.{Normal}
+use Rattle.normal_program.specs.Body.{part_weight, weight_of, BodyHoldsN}
+use Rattle.normal_program.specs.Normal.{body_var, RuleBodyHolds, KeepsN, IsAnswerSetN}
+use Rattle.normal_program.specs.Clauses.{positive, negative, has_atom, support_clause}
+use Rattle.normal_program.specs.Loop.{IsAtomOf}
 use Rattle.completion.proofs.TruthLemmas.{makes_true-positive, makes_true-negative, HoldsIn-here, HoldsIn-there, HoldsIn-by}
 use Rattle.completion.proofs.RuleLemmas.{Reads, holds-truth}
 

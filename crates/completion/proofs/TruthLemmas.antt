@@ -5,7 +5,7 @@ use Rattle.ground_program.specs.declared.program.AtomLit.{AtomLit}
 use Rattle.clause_store.specs.declared.literal.Lit.{Lit}
 use Rattle.clause_store.specs.Clause.{variable, is_negated, negation, truth, makes_true, IsTrueIn, HoldsIn}
 use Rattle.clause_store.proofs.LiteralLemmas.{variable-negation, is_negated-negation, any_from}
-use Rattle.rule_normaliser.specs.Clauses.{positive, negative, literal_of}
+use Rattle.normal_program.specs.Clauses.{positive, negative, literal_of}
 
 -- the parts of a literal's code
 yes_even : (var : ℕ) → (2 * var) % 2 ≡ 0

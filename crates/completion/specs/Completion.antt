@@ -2,11 +2,11 @@
 use Rattle.std.specs.Prelude.{◌≡◌, ◌+◌, ℕ, Bool, false, List, [], length, take, All, Some, slice_get}
 use Rattle.ground_program.specs.Meaning.{IsSetOver}
 use Rattle.clause_store.specs.Clause.{Meets, truth}
-use Rattle.rule_normaliser.specs.declared.normal.BodyOf.{BodyOf}
-use Rattle.rule_normaliser.specs.declared.normal.Normal.{Normal}
-use Rattle.rule_normaliser.specs.Body.{IsWeightBody, body_holds}
-use Rattle.rule_normaliser.specs.Normal.{body_var, extension, KeepsAllN, MeetsComputeN}
-use Rattle.rule_normaliser.specs.Clauses.{base_clauses, IsEntailed}
+use Rattle.normal_program.specs.declared.normal.BodyOf.{BodyOf}
+use Rattle.normal_program.specs.declared.normal.Normal.{Normal}
+use Rattle.normal_program.specs.Body.{IsWeightBody, body_holds}
+use Rattle.normal_program.specs.Normal.{body_var, extension, KeepsAllN, MeetsComputeN}
+use Rattle.normal_program.specs.Clauses.{base_clauses, IsEntailed}
 
 -- each base clause holds in every answer set
 abbrev pub AreEntailed : Normal → Type 0

@@ -1,10 +1,10 @@
 -- How a store is filled. Only `GainsFirst` stands in a public clause.
 use Rattle.std.specs.Prelude.{◌≡◌, ◌≤◌, ◌<◌, ◌^◌, ℕ, nat_eq, List, ◌++◌, map, filter, flat_map}
 use Rattle.clause_store.specs.declared.literal.Lit.{Lit}
-use Rattle.rule_normaliser.specs.declared.normal.NormalRule.{NormalRule}
-use Rattle.rule_normaliser.specs.declared.normal.Normal.{Normal}
-use Rattle.rule_normaliser.specs.Normal.{body_var}
-use Rattle.rule_normaliser.specs.Clauses.{positive}
+use Rattle.normal_program.specs.declared.normal.NormalRule.{NormalRule}
+use Rattle.normal_program.specs.declared.normal.Normal.{Normal}
+use Rattle.normal_program.specs.Normal.{body_var}
+use Rattle.normal_program.specs.Clauses.{positive}
 
 -- the store gained these clauses at its end
 abbrev pub Gains : List (List Lit) → List (List Lit) → List (List Lit) → Type 0

@@ -3,8 +3,8 @@ use Rattle.std.specs.Prelude.{◌≡◌, ◌≤◌, ◌+◌, ℕ, nat_eq, List, 
 use Rattle.std.specs.declared.vec.Vec.{Vec}
 use Rattle.std.specs.declared.alloc.Global.{Global}
 use Rattle.clause_store.specs.declared.literal.Lit.{Lit}
-use Rattle.rule_normaliser.specs.declared.normal.NormalRule.{NormalRule}
-use Rattle.rule_normaliser.specs.declared.normal.Normal.{Normal}
+use Rattle.normal_program.specs.declared.normal.NormalRule.{NormalRule}
+use Rattle.normal_program.specs.declared.normal.Normal.{Normal}
 use Rattle.completion.specs.Filling.{supports_of}
 
 -- the rows as lists

@@ -1,7 +1,7 @@
 // Adding a clause with each literal once, unless it has a literal and its negation.
 ghost use Rattle.std.specs.Prelude.{◌≡◌, ◌≤◌, [], ◌∷◌, map, All, IfOk, OnOk, OnErr};
 ghost use Rattle.clause_store.specs.Clause.{variable};
-ghost use Rattle.rule_normaliser.specs.Clauses.{each_once, has_lit, is_tautology, cleaned};
+ghost use Rattle.normal_program.specs.Clauses.{each_once, has_lit, is_tautology, cleaned};
 ghost use Rattle.completion.specs.Filling.{Gains, coded};
 
 use clause_store::{Lit, NoMemory, Store};

@@ -2,10 +2,10 @@
 ghost use Rattle.std.specs.Prelude.{◌≡◌, ◌++◌, map, flat_map, OnOk, OnErr};
 ghost use Rattle.clause_store.specs.Clause.{AreOver};
 ghost use Rattle.clause_store.specs.Trail.{KeepsTrails};
-ghost use Rattle.rule_normaliser.specs.Normal.{greatest_body_var};
-ghost use Rattle.rule_normaliser.specs.Clauses.{base_clauses, body_clauses, numbered_bodies, rule_clauses, support_clause, atoms_of_normal, compute_clauses, cleaned};
-ghost use Rattle.rule_normaliser.specs.Limit.{IsNormal};
-ghost use Rattle.rule_normaliser.specs.Range.{IsInRange};
+ghost use Rattle.normal_program.specs.Normal.{greatest_body_var};
+ghost use Rattle.normal_program.specs.Clauses.{base_clauses, body_clauses, numbered_bodies, rule_clauses, support_clause, atoms_of_normal, compute_clauses, cleaned};
+ghost use Rattle.normal_program.specs.Limit.{IsNormal};
+ghost use Rattle.normal_program.specs.Range.{IsInRange};
 ghost use Rattle.completion.specs.Completion.{AreEntailed, MakeModels};
 ghost use Rattle.completion.specs.Filling.{Gains, GainsFirst};
 
@@ -13,7 +13,7 @@ use crate::defining::add_bodies;
 use crate::ruling::{add_false, add_rules, add_true};
 use crate::supporting::add_supports;
 use clause_store::{NoMemory, Store};
-use rule_normaliser::Normal;
+use normal_program::Normal;
 use std::alloc::Global;
 
 /// Adds the base clauses of a normal form. After want of memory the store has the first of them.

@@ -1,15 +1,15 @@
 // The clauses of conjunctive bodies.
 ghost use Rattle.std.specs.Prelude.{◌≡◌, [], ◌∷◌, map, flat_map, All, IfOk, OnOk, OnErr};
 ghost use Rattle.clause_store.specs.Clause.{negation};
-ghost use Rattle.rule_normaliser.specs.Body.{is_conjunctive};
-ghost use Rattle.rule_normaliser.specs.Clauses.{positive, negative, literal_of, literals_of, all_clauses, body_clauses, numbered_bodies, cleaned};
-ghost use Rattle.rule_normaliser.specs.Range.{IsInRange};
+ghost use Rattle.normal_program.specs.Body.{is_conjunctive};
+ghost use Rattle.normal_program.specs.Clauses.{positive, negative, literal_of, literals_of, all_clauses, body_clauses, numbered_bodies, cleaned};
+ghost use Rattle.normal_program.specs.Range.{IsInRange};
 ghost use Rattle.completion.specs.Filling.{Gains, GainsFirst, IsVar};
 
 use crate::adding::add_clause;
 use clause_store::{Lit, NoMemory, Store, Var};
 use ground_program::AtomLit;
-use rule_normaliser::{BodyOf, Normal, Part};
+use normal_program::{BodyOf, Normal, Part};
 use std::alloc::Global;
 
 /// Adds the clauses of all conjunctive bodies.

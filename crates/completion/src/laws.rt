@@ -1,9 +1,9 @@
 // Laws about the base clauses. Each function has an empty body, and its contract is the law.
 ghost use Rattle.clause_store.specs.Clause.{AreOver};
-ghost use Rattle.rule_normaliser.specs.declared.normal.Normal.{Normal};
-ghost use Rattle.rule_normaliser.specs.Normal.{greatest_body_var};
-ghost use Rattle.rule_normaliser.specs.Clauses.{base_clauses};
-ghost use Rattle.rule_normaliser.specs.Limit.{IsNormal};
+ghost use Rattle.normal_program.specs.declared.normal.Normal.{Normal};
+ghost use Rattle.normal_program.specs.Normal.{greatest_body_var};
+ghost use Rattle.normal_program.specs.Clauses.{base_clauses};
+ghost use Rattle.normal_program.specs.Limit.{IsNormal};
 ghost use Rattle.completion.specs.Completion.{AreEntailed, MakeModels};
 
 /// The variables of the base clauses are those of atoms and bodies.

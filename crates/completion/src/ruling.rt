@@ -1,14 +1,14 @@
 // The clauses of rules and of the compute statement.
 ghost use Rattle.std.specs.Prelude.{◌≡◌, ◌∷◌, map, flat_map, not, All, IfOk, OnOk, OnErr};
-ghost use Rattle.rule_normaliser.specs.Normal.{body_var};
-ghost use Rattle.rule_normaliser.specs.Clauses.{positive, negative, alone, is_choice, rule_clauses, cleaned};
-ghost use Rattle.rule_normaliser.specs.Range.{IsInRange};
+ghost use Rattle.normal_program.specs.Normal.{body_var};
+ghost use Rattle.normal_program.specs.Clauses.{positive, negative, alone, is_choice, rule_clauses, cleaned};
+ghost use Rattle.normal_program.specs.Range.{IsInRange};
 ghost use Rattle.completion.specs.Filling.{Gains, GainsFirst, IsVar};
 
 use crate::adding::add_clause;
 use clause_store::{Lit, NoMemory, Store, Var};
 use ground_program::Kind;
-use rule_normaliser::{Normal, NormalRule};
+use normal_program::{Normal, NormalRule};
 use std::alloc::Global;
 
 /// Adds the clauses of all rules that aren't choice rules.

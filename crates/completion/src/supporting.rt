@@ -1,14 +1,14 @@
 // The support of atoms: where an atom is true, the body of some rule for it is.
 ghost use Rattle.std.specs.Prelude.{◌≡◌, ◌≤◌, ◌<◌, ◌+◌, [], ◌∷◌, ◌++◌, ℕ, List, length, map, replicate, slice_set, slice_index_or, All, IfOk, OnOk, OnErr};
 ghost use Rattle.clause_store.specs.Clause.{variable};
-ghost use Rattle.rule_normaliser.specs.Clauses.{positive, negative, support_clause, atoms_of_normal, cleaned};
-ghost use Rattle.rule_normaliser.specs.Range.{IsInRange};
+ghost use Rattle.normal_program.specs.Clauses.{positive, negative, support_clause, atoms_of_normal, cleaned};
+ghost use Rattle.normal_program.specs.Range.{IsInRange};
 ghost use Rattle.completion.specs.Filling.{Gains, GainsFirst, IsVar};
 ghost use Rattle.completion.specs.Rows.{rows_of, AreSupports, NotesAll};
 
 use crate::adding::add_clause;
 use clause_store::{Lit, NoMemory, Store, Var};
-use rule_normaliser::{Normal, NormalRule};
+use normal_program::{Normal, NormalRule};
 use std::alloc::Global;
 
 /// Adds the support clause of each atom.

@@ -3,7 +3,7 @@
 use crate::complete;
 use clause_store::{ClauseRef, Store};
 use ground_program::{AtomLit, Atoms, Body, Kind, Names, Program, Rule, Rules, Weighted, is_valid};
-use plain_list::NoMemory;
+use item_list::NoMemory;
 use rule_normaliser::{NormalError, normalise};
 use std::alloc::Global;
 use std::test::Fail;

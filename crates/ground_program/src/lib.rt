@@ -15,7 +15,7 @@ pub use laws::{
 };
 pub use meaning::{has_atom, holds_in, is_model};
 pub use pair::Pair;
-pub use plain_list::{Copied, List, NoMemory};
+pub use item_list::{Copied, List, NoMemory};
 pub use program::{
     AtomLit, Atoms, Bits, Body, Broken, Kind, Mode, Name, Named, Names, Pairs, Program, Rule,
     Rules, Set, Sets, Weighted,

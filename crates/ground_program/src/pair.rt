@@ -1,7 +1,7 @@
 ghost use Rattle.std.specs.Prelude.{◌≡◌, ◌<◌, ◌^◌, false, true, length, replicate, count_by, IfOk};
 
 use crate::Bits;
-use plain_list::{Copied, NoMemory};
+use item_list::{Copied, NoMemory};
 use std::alloc::Global;
 
 /// Two bounds on the consequences, with a truth value for each candidate.

@@ -1,6 +1,6 @@
 // A ground program as the numeric format of lparse and smodels has it, with disjunction.
 use crate::Pair;
-use plain_list::{Copied, List, NoMemory};
+use item_list::{Copied, List, NoMemory};
 use std::alloc::Global;
 
 /// Atoms by their numbers.

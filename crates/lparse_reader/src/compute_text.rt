@@ -5,7 +5,7 @@ ghost use Rattle.lparse_reader.specs.Reading.{all_at};
 use crate::fault::{Fault, Stop};
 use crate::token_text::number_of;
 use ground_program::Atoms;
-use plain_list::List;
+use item_list::List;
 use std::alloc::Global;
 
 /// All atoms up to a 0.

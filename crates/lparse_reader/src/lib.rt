@@ -14,7 +14,7 @@ mod whole_text;
 
 pub use fault::{ReadError, TextFault};
 pub use ground_program::Program;
-pub use plain_list::NoMemory;
+pub use item_list::NoMemory;
 pub use printing::print_program;
 pub use source_text::read_program;
 pub use text_laws::text_reads_back;

@@ -6,7 +6,7 @@ ghost use Rattle.lparse_reader.specs.Reading.{kind_or_end_at, counts_at, body_at
 use crate::fault::{Fault, Stop, TextFault};
 use crate::token_text::{atom_of, fault_here, next_token, number_of};
 use ground_program::{AtomLit, Atoms, Body, Kind, Rule, Rules, Weighted};
-use plain_list::{List, NoMemory};
+use item_list::{List, NoMemory};
 use std::alloc::Global;
 
 /// How many literals a body has.

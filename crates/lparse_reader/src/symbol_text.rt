@@ -7,7 +7,7 @@ ghost use Rattle.lparse_reader.specs.Reading.{all_at};
 use crate::fault::{Fault, Stop, TextFault};
 use crate::token_text::{fault_here, next_token, number_of};
 use ground_program::{Name, Named, Names};
-use plain_list::{List, NoMemory};
+use item_list::{List, NoMemory};
 use std::alloc::Global;
 
 /// All entries.

@@ -2,8 +2,8 @@
 use Rattle.std.proofs.Common.{◌≡◌, ◌≢◌, ◌+◌, Bool, true, false, List, [], ◌∷◌, ◌++◌, length, Result, Ok, Err, IfOk, arith, sym, ap, ◌∙◌, subst, true≢false, append_assoc, append-nil, length-append}
 use Rattle.std.specs.Prelude.{◌↔◌, IsTrue}
 use Rattle.clause_store.specs.declared.literal.Lit.{Lit}
-use Rattle.rule_normaliser.specs.declared.normal.Normal.{Normal}
-use Rattle.rule_normaliser.specs.Clauses.{IsEntailed}
+use Rattle.normal_program.specs.declared.normal.Normal.{Normal}
+use Rattle.normal_program.specs.Clauses.{IsEntailed}
 use Rattle.plain_entailment.specs.Search.{HoldsForSet, HoldsFrom}
 
 module _ (normal : Normal) (disjunctions : List (List Lit)) (clause : List Lit) where

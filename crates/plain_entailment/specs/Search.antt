@@ -2,9 +2,9 @@
 use Rattle.std.specs.Prelude.{Bool, List, ◌++◌}
 use Rattle.clause_store.specs.declared.literal.Lit.{Lit}
 use Rattle.clause_store.specs.Clause.{HoldsIn}
-use Rattle.rule_normaliser.specs.declared.normal.Normal.{Normal}
-use Rattle.rule_normaliser.specs.Normal.{extension, IsAnswerSetN}
-use Rattle.rule_normaliser.specs.Clauses.{AreChosen}
+use Rattle.normal_program.specs.declared.normal.Normal.{Normal}
+use Rattle.normal_program.specs.Normal.{extension, IsAnswerSetN}
+use Rattle.normal_program.specs.Clauses.{AreChosen}
 
 -- the clause holds by `values` with each choice, judged by `base`, of the selectors with these disjunctions
 abbrev pub HoldsWithChoices : List Bool → List (List Lit) → List Lit → List Bool → Type 0

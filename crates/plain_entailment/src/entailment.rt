@@ -1,7 +1,7 @@
 // Goes over the sets of atoms, and asks of each answer set whether the clause holds.
 ghost use Rattle.std.specs.Prelude.{◌≤◌, ◌+◌, ◌↔◌, length, IsTrue, IfOk};
-ghost use Rattle.rule_normaliser.specs.Normal.{IsNormalFormOf, SameAnswerSets};
-ghost use Rattle.rule_normaliser.specs.Clauses.{IsEntailed};
+ghost use Rattle.normal_program.specs.Normal.{IsNormalFormOf, SameAnswerSets};
+ghost use Rattle.normal_program.specs.Clauses.{IsEntailed};
 ghost use Rattle.plain_entailment.specs.Search.{HoldsForSet, HoldsFrom};
 
 use crate::choices::holds_with_choices;
@@ -9,7 +9,7 @@ use crate::truth::{extended, longer};
 use clause_store::{Clause, Lit, Units};
 use ground_program::{NoMemory, Program, Set};
 use plain_answer_sets::is_answer_set;
-use rule_normaliser::{Normal, normal_form_means_the_program};
+use normal_program::{Normal, normal_form_means_the_program};
 use std::alloc::Global;
 
 /// Whether the clause holds in each answer set of the program, with each choice of the selectors

@@ -2,12 +2,12 @@
 ghost use Rattle.std.specs.Prelude.{◌≡◌, ◌↔◌, ◌∷◌, [], ◌++◌, IsTrue, IfOk};
 ghost use Rattle.clause_store.specs.Clause.{makes_true, HoldsIn};
 ghost use Rattle.ground_program.specs.Meaning.{counts};
-ghost use Rattle.rule_normaliser.specs.Body.{body_holds};
-ghost use Rattle.rule_normaliser.specs.Normal.{extension};
+ghost use Rattle.normal_program.specs.Body.{body_holds};
+ghost use Rattle.normal_program.specs.Normal.{extension};
 
 use clause_store::Lit;
 use ground_program::{AtomLit, NoMemory, Set, has_atom};
-use rule_normaliser::{BodyOf, Normal};
+use normal_program::{BodyOf, Normal};
 use std::alloc::Global;
 
 /// Whether some literal of the clause is true.

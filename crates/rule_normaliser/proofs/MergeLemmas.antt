@@ -11,34 +11,12 @@ use Rattle.std.specs.List.Sorted.{IsNonDecreasingBy}
 use Rattle.ground_program.specs.Program.{IsNumber}
 use Rattle.ground_program.specs.declared.program.AtomLit.{AtomLit}
 use Rattle.ground_program.specs.declared.program.Weighted.{Weighted}
-use Rattle.rule_normaliser.specs.declared.normal.Part.{Part}
+use Rattle.normal_program.specs.declared.normal.Part.{Part}
 use Rattle.rule_normaliser.specs.declared.key.KeyPart.{KeyPart}
-use Rattle.rule_normaliser.specs.Body.{rank, is_same, total_weight, IsMerged}
+use Rattle.normal_program.specs.Body.{rank, is_same, total_weight, IsMerged}
 use Rattle.rule_normaliser.specs.Key.{part_of, KeepsMerged}
-use Rattle.rule_normaliser.proofs.ListLemmas.{Any-append_left, All-found}
-
--- literals of one rank are the same
-pub rank-injective : (one two : AtomLit) → rank one ≡ rank two → one ≡ two
-rank-injective one two same = by one.negated two.negated refl refl
-  where
-    with : AtomLit → Bool → ℕ
-    with lit negated = lit.atom + lit.atom + (if negated then 0 else 1)
-
-    by : (a b : Bool) → one.negated ≡ a → two.negated ≡ b → one ≡ two
-    by true true p q =
-        let e : one.atom + one.atom + 0 ≡ two.atom + two.atom + 0 = sym (ap (λ b. one.atom + one.atom + (if b then 0 else 1)) p) ∙ same ∙ ap (λ b. two.atom + two.atom + (if b then 0 else 1)) q in
-        let h : one.atom ≡ two.atom = omega (arith, e) in
-        λ i. record { atom = h i; negated = (p ∙ sym q) i }
-    by false false p q =
-        let e : one.atom + one.atom + 1 ≡ two.atom + two.atom + 1 = sym (ap (λ b. one.atom + one.atom + (if b then 0 else 1)) p) ∙ same ∙ ap (λ b. two.atom + two.atom + (if b then 0 else 1)) q in
-        let h : one.atom ≡ two.atom = omega (arith, e) in
-        λ i. record { atom = h i; negated = (p ∙ sym q) i }
-    by true false p q =
-        let e : one.atom + one.atom + 0 ≡ two.atom + two.atom + 1 = sym (ap (λ b. one.atom + one.atom + (if b then 0 else 1)) p) ∙ same ∙ ap (λ b. two.atom + two.atom + (if b then 0 else 1)) q in
-        absurd (omega (arith, e))
-    by false true p q =
-        let e : one.atom + one.atom + 1 ≡ two.atom + two.atom + 0 = sym (ap (λ b. one.atom + one.atom + (if b then 0 else 1)) p) ∙ same ∙ ap (λ b. two.atom + two.atom + (if b then 0 else 1)) q in
-        absurd (omega (arith, e))
+use Rattle.normal_program.proofs.RankLemmas.{rank-injective}
+use Rattle.normal_program.proofs.ListLemmas.{Any-append_left, All-found}
 
 module _ (body : List Weighted) (item : Weighted) (lit : AtomLit) where
   -- another literal leaves the weight of a literal as it is

@@ -12,10 +12,10 @@ use Rattle.std.proofs.lemmas.List.Folds.{list_any_at}
 use Rattle.std.proofs.lemmas.List.Quantifiers.{all_pairs_push, Any-push}
 use Rattle.std.proofs.lemmas.Option.{slice_get-map, slice_get_within, slice_get_read, get_or_from_slice_get}
 use Rattle.ground_program.specs.declared.program.Rule.{Rule}
-use Rattle.rule_normaliser.specs.declared.normal.BodyOf.{BodyOf}
-use Rattle.rule_normaliser.specs.declared.normal.NormalRule.{NormalRule}
-use Rattle.rule_normaliser.specs.Normal.{IsBodyOf, StandsFor, HasNumber, AreInOrder, AreNumbered}
-use Rattle.rule_normaliser.proofs.ListLemmas.{Any-append_left, slice_get_append, IsSomeAnd-kept, AllZip-add, AllZip-weaker}
+use Rattle.normal_program.specs.declared.normal.BodyOf.{BodyOf}
+use Rattle.normal_program.specs.declared.normal.NormalRule.{NormalRule}
+use Rattle.normal_program.specs.Normal.{IsBodyOf, StandsFor, HasNumber, AreInOrder, AreNumbered}
+use Rattle.normal_program.proofs.ListLemmas.{Any-append_left, slice_get_append, IsSomeAnd-kept, AllZip-add, AllZip-weaker}
 use Rattle.rule_normaliser.specs.declared.key.KeyPart.{KeyPart}
 use Rattle.rule_normaliser.specs.declared.key.BodyKey.{BodyKey}
 use Rattle.rule_normaliser.specs.Key.{part_of, body_of, Numbers}

@@ -1,11 +1,11 @@
 -- What keys of bodies stand for. No public clause cites this module.
 use Rattle.std.specs.Prelude.{◌≡◌, ◌≢◌, ◌⊎◌, ◌≤◌, ℕ, Some, slice_get, length, List, [], ◌∷◌, ◌++◌, map, All}
 use Rattle.ground_program.specs.declared.program.Weighted.{Weighted}
-use Rattle.rule_normaliser.specs.declared.normal.Part.{Part}
-use Rattle.rule_normaliser.specs.declared.normal.BodyOf.{BodyOf}
+use Rattle.normal_program.specs.declared.normal.Part.{Part}
+use Rattle.normal_program.specs.declared.normal.BodyOf.{BodyOf}
 use Rattle.rule_normaliser.specs.declared.key.KeyPart.{KeyPart}
 use Rattle.rule_normaliser.specs.declared.key.BodyKey.{BodyKey}
-use Rattle.rule_normaliser.specs.Body.{rank, IsMerged}
+use Rattle.normal_program.specs.Body.{rank, IsMerged}
 
 -- the part of a key's part
 abbrev pub part_of : KeyPart → Part

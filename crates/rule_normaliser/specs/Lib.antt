@@ -1,8 +1,2 @@
-pub mod Body
-pub mod Normal
-pub mod Clauses
-pub mod Loop
-pub mod Spent
 pub mod Key
-pub mod Limit
-pub mod Range
+pub mod Cause

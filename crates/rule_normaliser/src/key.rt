@@ -5,7 +5,7 @@ ghost use Rattle.rule_normaliser.specs.Key.{part_of, body_of};
 
 use crate::{BodyOf, Part};
 use ground_program::{AtomLit, Weighted};
-use plain_list::{List, NoMemory};
+use item_list::{List, NoMemory};
 use std::alloc::Global;
 
 /// A part of a body.

@@ -3,12 +3,12 @@ ghost use Rattle.std.specs.Prelude.{◌≡◌, ◌+◌, ◌^◌, ◌<◌, ◌≤
 ghost use Rattle.std.specs.List.Sorted.{IsNonDecreasingBy};
 ghost use Rattle.ground_program.specs.declared.program.Weighted.{Weighted};
 ghost use Rattle.ground_program.specs.Program.{IsNumber};
-ghost use Rattle.rule_normaliser.specs.Body.{rank, IsMerged};
+ghost use Rattle.normal_program.specs.Body.{rank, IsMerged};
 ghost use Rattle.rule_normaliser.specs.Key.{part_of, KeepsMerged};
 
 use crate::key::KeyPart;
 use ground_program::{AtomLit, Weighted};
-use plain_list::NoMemory;
+use item_list::NoMemory;
 use std::alloc::Global;
 
 /// The merged body, as the parts of a key.

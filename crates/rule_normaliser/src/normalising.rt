@@ -2,17 +2,14 @@
 ghost use Rattle.std.specs.Prelude.{◌≡◌, ◌≤◌, ◌<◌, ◌+◌, ◌^◌, length, map, IfOk, IfErr};
 ghost use Rattle.ground_program.specs.Program.{IsProgram};
 ghost use Rattle.rule_normaliser.specs.Key.{body_of};
-ghost use Rattle.rule_normaliser.specs.Normal.{IsNormalFormOf, AreNumbered, variables, SameBodies, SameAnswerSets};
-ghost use Rattle.rule_normaliser.specs.Limit.{IsCauseOf};
+ghost use Rattle.normal_program.specs.Normal.{IsNormalFormOf, AreNumbered, variables, SameBodies, SameAnswerSets};
+ghost use Rattle.rule_normaliser.specs.Cause.{IsCauseOf};
 
 use crate::numbering::{Numbered, bodies_of, number_rules};
-use crate::{Normal, NormalError};
+use crate::{MOST_VARIABLES, Normal, NormalError};
 use ground_program::Program;
-use plain_list::NoMemory;
+use item_list::NoMemory;
 use std::alloc::Global;
-
-/// How many variables a normal form may have.
-pub const MOST_VARIABLES: u64 = 1_048_575;
 
 /// The normal form of a program. Its rules stand for those of the program, one by one.
 pub fn normalise(alloc: Global, program: &Program) -> Result<Normal, NormalError>

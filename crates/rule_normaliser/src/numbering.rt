@@ -2,14 +2,14 @@
 ghost use Rattle.std.specs.Prelude.{◌≡◌, ◌≤◌, ◌<◌, ◌+◌, length, map, All, IfOk};
 ghost use Rattle.ground_program.specs.Program.{IsNumber, IsRule};
 ghost use Rattle.rule_normaliser.specs.Key.{body_of, Numbers};
-ghost use Rattle.rule_normaliser.specs.Normal.{AreNumbered};
+ghost use Rattle.normal_program.specs.Normal.{AreNumbered};
 
 use crate::key::BodyKey;
 use crate::merging::merged;
 use crate::{Bodies, NormalRule, NormalRules};
 use ground_program::Rule;
 use indexmap::IndexSet;
-use plain_list::{List, NoMemory};
+use item_list::{List, NoMemory};
 use std::alloc::Global;
 
 /// Rules with the keys of their bodies.

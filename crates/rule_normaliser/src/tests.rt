@@ -5,7 +5,7 @@ use clause_store::{Clause, Lit, Units};
 use ground_program::{
     AtomLit, Atoms, Body, Kind, Name, Named, Names, Program, Rule, Rules, Set, Weighted, is_valid,
 };
-use plain_list::{Copied, NoMemory};
+use item_list::{Copied, NoMemory};
 use std::alloc::Global;
 use std::test::Fail;
 

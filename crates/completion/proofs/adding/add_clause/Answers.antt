@@ -1,6 +1,6 @@
 use Rattle.std.proofs.Common.{◌≡◌, ◌∙◌, false, sym, subst, ap}
 use Rattle.clause_store.specs.Clause.{IsClause}
-use Rattle.rule_normaliser.specs.Clauses.{each_once, is_tautology}
+use Rattle.normal_program.specs.Clauses.{each_once, is_tautology}
 use Rattle.completion.proofs.AddLemmas.{IsClause-once}
 use Rattle.completion.proofs.adding.add_clause.Goals as goal
 

@@ -1,6 +1,6 @@
 use Rattle.std.proofs.Common.{◌≡◌, ◌<◌, length, map, take, sym, subst, arith}
 use Rattle.std.proofs.lemmas.List.{take_more}
-use Rattle.rule_normaliser.specs.Clauses.{each_once}
+use Rattle.normal_program.specs.Clauses.{each_once}
 use Rattle.completion.specs.Filling.{coded}
 use Rattle.completion.proofs.AddLemmas.{codes-insert}
 use Rattle.completion.proofs.adding.codes_of.Goals as goal

@@ -1,5 +1,5 @@
 use Rattle.std.proofs.Common.{◌≡◌, map, take}
-use Rattle.rule_normaliser.specs.Clauses.{each_once}
+use Rattle.normal_program.specs.Clauses.{each_once}
 use Rattle.completion.specs.Filling.{coded}
 use Rattle.completion.proofs.adding.codes_of.Given as goal
 

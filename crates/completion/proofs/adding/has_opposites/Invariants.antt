@@ -1,7 +1,7 @@
 use Rattle.std.proofs.Common.{◌≡◌, false, take}
 use Rattle.std.specs.List.{list_any}
 use Rattle.clause_store.specs.Clause.{negation}
-use Rattle.rule_normaliser.specs.Clauses.{has_lit}
+use Rattle.normal_program.specs.Clauses.{has_lit}
 use Rattle.completion.proofs.adding.has_opposites.Given as goal
 
 abbrev pub invariant-loop-lit : goal.invariant-loop-lit

@@ -1,6 +1,6 @@
 use Rattle.std.proofs.Common.{List, map, flat_map, sym, subst, ◌++◌}
 use Rattle.clause_store.specs.declared.literal.Lit.{Lit}
-use Rattle.rule_normaliser.specs.Clauses.{base_clauses, body_clauses, numbered_bodies, rule_clauses, support_clause, atoms_of_normal, compute_clauses, cleaned}
+use Rattle.normal_program.specs.Clauses.{base_clauses, body_clauses, numbered_bodies, rule_clauses, support_clause, atoms_of_normal, compute_clauses, cleaned}
 use Rattle.completion.specs.Filling.{Gains, GainsFirst}
 use Rattle.completion.proofs.GainLemmas.{Gains-then, Gains-first, GainsFirst-more, OnErr-from, OnErr-weaker, base_split}
 use Rattle.completion.proofs.completing.add_all.Goals as goal

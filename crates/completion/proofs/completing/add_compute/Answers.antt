@@ -1,6 +1,6 @@
 use Rattle.std.proofs.Common.{ℕ, List, map, sym, subst}
 use Rattle.clause_store.specs.declared.literal.Lit.{Lit}
-use Rattle.rule_normaliser.specs.Clauses.{positive, negative, alone, compute_clauses, cleaned}
+use Rattle.normal_program.specs.Clauses.{positive, negative, alone, compute_clauses, cleaned}
 use Rattle.completion.specs.Filling.{Gains, GainsFirst}
 use Rattle.completion.proofs.GainLemmas.{Gains-first, OnErr-weaker, cleaned-append}
 use Rattle.completion.proofs.completing.add_compute.Goals as goal

@@ -1,5 +1,5 @@
-use Rattle.rule_normaliser.proofs.RangeLemmas.{IsNormal-in_range}
-use Rattle.rule_normaliser.specs.Clauses.{base_clauses}
+use Rattle.normal_program.proofs.RangeLemmas.{IsNormal-in_range}
+use Rattle.normal_program.specs.Clauses.{base_clauses}
 use Rattle.completion.proofs.GainLemmas.{gain_keeps_trails}
 use Rattle.completion.proofs.OverLemmas.{base_clauses-over}
 use Rattle.completion.proofs.EntailedLemmas.{base_clauses-entailed}

@@ -1,10 +1,10 @@
 use Rattle.std.proofs.Common.{◌≡◌, ◌<◌, true, List, [], ◌∷◌, length, flat_map, take, take_all, get_or, if◌then◌else◌, sym, subst, ap, ◌∙◌, arith}
 use Rattle.std.proofs.lemmas.List.FromFn.{length-enumerate_from}
 use Rattle.std.proofs.lemmas.List.Concat.{flat_map-append}
-use Rattle.rule_normaliser.specs.declared.normal.BodyOf.{BodyOf}
-use Rattle.rule_normaliser.specs.Body.{is_conjunctive}
-use Rattle.rule_normaliser.specs.Normal.{body_var}
-use Rattle.rule_normaliser.specs.Clauses.{all_clauses, literals_of, body_clauses, numbered_bodies, cleaned}
+use Rattle.normal_program.specs.declared.normal.BodyOf.{BodyOf}
+use Rattle.normal_program.specs.Body.{is_conjunctive}
+use Rattle.normal_program.specs.Normal.{body_var}
+use Rattle.normal_program.specs.Clauses.{all_clauses, literals_of, body_clauses, numbered_bodies, cleaned}
 use Rattle.completion.specs.Filling.{Gains, GainsFirst}
 use Rattle.completion.proofs.GainLemmas.{Gains-more, Gains-stopped, Gains-nothing, OnErr-from, flat_map-one, numbered-item}
 use Rattle.completion.proofs.defining.add_bodies.Goals as goal

@@ -1,5 +1,5 @@
 use Rattle.std.proofs.Common.{flat_map, take}
-use Rattle.rule_normaliser.specs.Clauses.{body_clauses, numbered_bodies, cleaned}
+use Rattle.normal_program.specs.Clauses.{body_clauses, numbered_bodies, cleaned}
 use Rattle.completion.specs.Filling.{Gains}
 use Rattle.completion.proofs.defining.add_bodies.Given as goal
 

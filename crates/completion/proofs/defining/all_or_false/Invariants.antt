@@ -1,6 +1,6 @@
 use Rattle.std.proofs.Common.{◌≡◌, ◌∷◌, map, take}
 use Rattle.clause_store.specs.Clause.{negation}
-use Rattle.rule_normaliser.specs.Clauses.{positive, literals_of}
+use Rattle.normal_program.specs.Clauses.{positive, literals_of}
 use Rattle.completion.proofs.defining.all_or_false.Given as goal
 
 abbrev pub invariant-loop-part : goal.invariant-loop-part

@@ -1,6 +1,6 @@
 use Rattle.std.proofs.Common.{◌≡◌, ◌+◌, nat_eq, true, not, sum_by, take}
 use Rattle.std.specs.List.{list_all}
-use Rattle.rule_normaliser.specs.declared.normal.Part.{Part}
+use Rattle.normal_program.specs.declared.normal.Part.{Part}
 use Rattle.completion.proofs.defining.asks_for_all.Given as goal
 
 abbrev pub invariant-loop-part : goal.invariant-loop-part

@@ -1,8 +1,8 @@
 use Rattle.std.proofs.Common.{◌<◌, ◌∙◌, false, List, [], ◌∷◌, length, map, get_or, ap, arith}
 use Rattle.std.proofs.lemmas.List.{get_or_default, map-append}
 use Rattle.clause_store.specs.declared.literal.Lit.{Lit}
-use Rattle.rule_normaliser.specs.declared.normal.Part.{Part}
-use Rattle.rule_normaliser.specs.Clauses.{negative, literal_of, literals_of}
+use Rattle.normal_program.specs.declared.normal.Part.{Part}
+use Rattle.normal_program.specs.Clauses.{negative, literal_of, literals_of}
 use Rattle.completion.proofs.GainLemmas.{Gains-stopped, GainsFirst-none, OnErr-from}
 use Rattle.completion.proofs.defining.imply_each.Goals as goal
 

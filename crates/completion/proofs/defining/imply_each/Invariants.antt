@@ -1,5 +1,5 @@
 use Rattle.std.proofs.Common.{[], ◌∷◌, map, take}
-use Rattle.rule_normaliser.specs.Clauses.{negative, literals_of, cleaned}
+use Rattle.normal_program.specs.Clauses.{negative, literals_of, cleaned}
 use Rattle.completion.specs.Filling.{Gains}
 use Rattle.completion.proofs.defining.imply_each.Given as goal
 

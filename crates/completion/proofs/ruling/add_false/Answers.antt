@@ -1,6 +1,6 @@
 use Rattle.std.proofs.Common.{◌<◌, length, map, get_or, arith}
 use Rattle.std.proofs.lemmas.List.{get_or_default}
-use Rattle.rule_normaliser.specs.Clauses.{negative, alone}
+use Rattle.normal_program.specs.Clauses.{negative, alone}
 use Rattle.completion.proofs.GainLemmas.{Gains-stopped, GainsFirst-none, OnErr-from, mapped_apart}
 use Rattle.completion.proofs.ruling.add_false.Goals as goal
 

@@ -2,10 +2,10 @@ use Rattle.std.proofs.Common.{◌≡◌, ◌≤◌, ◌<◌, true, false, not, L
 use Rattle.std.proofs.lemmas.List.Concat.{flat_map-append}
 use Rattle.clause_store.specs.declared.literal.Lit.{Lit}
 use Rattle.clause_store.specs.Clause.{variable}
-use Rattle.rule_normaliser.specs.declared.normal.NormalRule.{NormalRule}
-use Rattle.rule_normaliser.specs.Normal.{body_var}
-use Rattle.rule_normaliser.specs.Clauses.{positive, negative, is_choice, rule_clauses, cleaned}
-use Rattle.rule_normaliser.specs.Loop.{IsAtomOf}
+use Rattle.normal_program.specs.declared.normal.NormalRule.{NormalRule}
+use Rattle.normal_program.specs.Normal.{body_var}
+use Rattle.normal_program.specs.Clauses.{positive, negative, is_choice, rule_clauses, cleaned}
+use Rattle.normal_program.specs.Loop.{IsAtomOf}
 use Rattle.completion.specs.Filling.{Gains}
 use Rattle.completion.proofs.GainLemmas.{Gains-more, Gains-stopped, Gains-nothing, GainsFirst-none, OnErr-from, flat_map-one, vars-positive}
 use Rattle.completion.proofs.ruling.add_rules.Goals as goal

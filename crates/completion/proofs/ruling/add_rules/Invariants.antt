@@ -1,5 +1,5 @@
 use Rattle.std.proofs.Common.{flat_map, take}
-use Rattle.rule_normaliser.specs.Clauses.{rule_clauses, cleaned}
+use Rattle.normal_program.specs.Clauses.{rule_clauses, cleaned}
 use Rattle.completion.specs.Filling.{Gains}
 use Rattle.completion.proofs.ruling.add_rules.Given as goal
 

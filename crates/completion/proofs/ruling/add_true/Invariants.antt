@@ -1,5 +1,5 @@
 use Rattle.std.proofs.Common.{map, take}
-use Rattle.rule_normaliser.specs.Clauses.{positive, alone, cleaned}
+use Rattle.normal_program.specs.Clauses.{positive, alone, cleaned}
 use Rattle.completion.specs.Filling.{Gains}
 use Rattle.completion.proofs.ruling.add_true.Given as goal
 

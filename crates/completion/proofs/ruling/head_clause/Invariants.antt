@@ -1,5 +1,5 @@
 use Rattle.std.proofs.Common.{◌≡◌, ◌∷◌, map, take}
-use Rattle.rule_normaliser.specs.Clauses.{positive, negative}
+use Rattle.normal_program.specs.Clauses.{positive, negative}
 use Rattle.completion.proofs.ruling.head_clause.Given as goal
 
 abbrev pub invariant-loop-head : goal.invariant-loop-head

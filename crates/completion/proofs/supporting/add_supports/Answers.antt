@@ -4,7 +4,7 @@ use Rattle.std.specs.declared.vec.Vec.{Vec}
 use Rattle.std.specs.declared.alloc.Global.{Global}
 use Rattle.clause_store.specs.declared.literal.Lit.{Lit}
 use Rattle.clause_store.specs.Clause.{variable}
-use Rattle.rule_normaliser.specs.Clauses.{support_clause, atoms_of_normal, cleaned}
+use Rattle.normal_program.specs.Clauses.{support_clause, atoms_of_normal, cleaned}
 use Rattle.completion.specs.Filling.{Gains, supports_of}
 use Rattle.completion.proofs.GainLemmas.{Gains-more, Gains-stopped, GainsFirst-none, OnErr-from, mapped_apart}
 use Rattle.completion.proofs.RowLemmas.{supports-vars, cleaned-row, length-numbers, get_or-numbers}

@@ -1,5 +1,5 @@
 use Rattle.std.proofs.Common.{◌-◌, map, take}
-use Rattle.rule_normaliser.specs.Clauses.{support_clause, atoms_of_normal, cleaned}
+use Rattle.normal_program.specs.Clauses.{support_clause, atoms_of_normal, cleaned}
 use Rattle.completion.specs.Filling.{Gains}
 use Rattle.completion.proofs.supporting.add_supports.Given as goal
 

@@ -2,9 +2,9 @@ use Rattle.std.proofs.Common.{◌≡◌, ◌<◌, ◌++◌, [], ◌∷◌, List,
 use Rattle.std.proofs.lemmas.List.{take_more}
 use Rattle.clause_store.specs.declared.literal.Lit.{Lit}
 use Rattle.clause_store.proofs.LiteralLemmas.{lit_of_code}
-use Rattle.rule_normaliser.specs.declared.normal.NormalRule.{NormalRule}
-use Rattle.rule_normaliser.specs.Normal.{body_var}
-use Rattle.rule_normaliser.specs.Clauses.{positive}
+use Rattle.normal_program.specs.declared.normal.NormalRule.{NormalRule}
+use Rattle.normal_program.specs.Normal.{body_var}
+use Rattle.normal_program.specs.Clauses.{positive}
 use Rattle.completion.specs.Rows.{rows_of, AreSupports, NotesAll}
 use Rattle.completion.proofs.RowLemmas.{AreSupports-more}
 use Rattle.completion.proofs.supporting.gather.Goals as goal

@@ -1,5 +1,5 @@
 use Rattle.std.proofs.Common.{◌≡◌, ◌++◌, map, take}
-use Rattle.rule_normaliser.specs.Body.{body_holds}
+use Rattle.normal_program.specs.Body.{body_holds}
 use Rattle.plain_entailment.proofs.truth.extended.Given as goal
 
 abbrev pub invariant-loop-body : goal.invariant-loop-body

@@ -1,5 +1,5 @@
 use Rattle.std.proofs.Common.{◌≡◌, ◌-◌, sum_by, take}
-use Rattle.rule_normaliser.specs.Body.{part_weight}
+use Rattle.normal_program.specs.Body.{part_weight}
 use Rattle.plain_entailment.proofs.truth.is_met.Given as goal
 
 abbrev pub invariant-loop-part : goal.invariant-loop-part

@@ -1,7 +1,7 @@
 use Rattle.std.proofs.Common.{rules}
 use Rattle.std.proofs.lemmas.List.Sorted.{IsNonDecreasingBy-from_sort_by_key}
 use Rattle.ground_program.specs.declared.program.Weighted.{Weighted}
-use Rattle.rule_normaliser.specs.Body.{rank}
+use Rattle.normal_program.specs.Body.{rank}
 use Rattle.rule_normaliser.proofs.merging.in_order.Goals as goal
 
 pub returns-clause-order : goal.returns-clause-order

@@ -3,8 +3,8 @@ use Rattle.std.proofs.lemmas.List.{take_more, get_or-map, length-map}
 use Rattle.std.proofs.lemmas.List.Elements.{All-take}
 use Rattle.ground_program.specs.declared.program.Weighted.{Weighted}
 use Rattle.ground_program.specs.Program.{IsNumber}
-use Rattle.rule_normaliser.specs.declared.normal.Part.{Part}
-use Rattle.rule_normaliser.specs.Body.{IsMerged}
+use Rattle.normal_program.specs.declared.normal.Part.{Part}
+use Rattle.normal_program.specs.Body.{IsMerged}
 use Rattle.rule_normaliser.specs.Key.{part_of}
 use Rattle.rule_normaliser.proofs.MergeLemmas.{merged_weights_small, at_most_before}
 use Rattle.rule_normaliser.proofs.merging.joined.Goals as goal

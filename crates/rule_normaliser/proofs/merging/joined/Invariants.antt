@@ -1,5 +1,5 @@
 use Rattle.std.proofs.Common.{map, take}
-use Rattle.rule_normaliser.specs.Body.{IsMerged}
+use Rattle.normal_program.specs.Body.{IsMerged}
 use Rattle.rule_normaliser.specs.Key.{part_of}
 use Rattle.rule_normaliser.proofs.merging.joined.Given as goal
 

@@ -4,7 +4,7 @@ use Rattle.std.proofs.lemmas.List.Sorted.{All-permutation, length_permutation}
 use Rattle.std.proofs.lemmas.Result.{IfOk-weaker}
 use Rattle.ground_program.specs.declared.program.Weighted.{Weighted}
 use Rattle.ground_program.specs.Program.{IsNumber}
-use Rattle.rule_normaliser.specs.Body.{rank, IsMerged}
+use Rattle.normal_program.specs.Body.{rank, IsMerged}
 use Rattle.rule_normaliser.specs.Key.{part_of}
 use Rattle.rule_normaliser.proofs.MergeLemmas.{IsMerged-permutation}
 use Rattle.rule_normaliser.proofs.merging.merged.Goals as goal

@@ -1,9 +1,9 @@
 use Rattle.std.proofs.Common.{◌≡◌, map, subst, refl, arith}
 use Rattle.std.proofs.lemmas.List.{length-map}
-use Rattle.rule_normaliser.specs.declared.normal.Normal.{Normal}
+use Rattle.normal_program.specs.declared.normal.Normal.{Normal}
 use Rattle.rule_normaliser.specs.Key.{body_of}
-use Rattle.rule_normaliser.specs.Normal.{AreNumbered, variables, IsNormalFormOf}
-use Rattle.rule_normaliser.proofs.NormalLemmas.{SameBodies-normal_form, SameAnswerSets-normal_form}
+use Rattle.normal_program.specs.Normal.{AreNumbered, variables, IsNormalFormOf}
+use Rattle.normal_program.proofs.NormalLemmas.{SameBodies-normal_form, SameAnswerSets-normal_form}
 use Rattle.rule_normaliser.proofs.normalising.normalise.Goals as goal
 
 pub returns-then-count-gt-MOST_VARIABLES-clause-refused :

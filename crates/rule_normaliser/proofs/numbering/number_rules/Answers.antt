@@ -1,9 +1,9 @@
 use Rattle.std.proofs.Common.{◌<◌, length, map, subst, sym, ap, refl, arith, take, ◌++◌, [], ◌∷◌, ◌∙◌}
 use Rattle.std.proofs.lemmas.List.{take_more, length-map}
 use Rattle.rule_normaliser.specs.declared.key.BodyKey.{BodyKey}
-use Rattle.rule_normaliser.specs.Body.{IsMerged}
+use Rattle.normal_program.specs.Body.{IsMerged}
 use Rattle.rule_normaliser.specs.Key.{part_of, body_of}
-use Rattle.rule_normaliser.specs.Normal.{IsBodyOf, AreNumbered}
+use Rattle.normal_program.specs.Normal.{IsBodyOf, AreNumbered}
 use Rattle.rule_normaliser.proofs.NumberLemmas.{Numbers-few, AreNumbered-push}
 use Rattle.rule_normaliser.proofs.numbering.number_rules.Goals as goal
 

@@ -1,6 +1,6 @@
 use Rattle.std.proofs.Common.{◌≤◌, length, map, take}
 use Rattle.rule_normaliser.specs.Key.{body_of}
-use Rattle.rule_normaliser.specs.Normal.{AreNumbered}
+use Rattle.normal_program.specs.Normal.{AreNumbered}
 use Rattle.rule_normaliser.proofs.numbering.number_rules.Given as goal
 
 abbrev pub invariant-loop-rule : goal.invariant-loop-rule

@@ -1,5 +1,0 @@
-use Rattle.learning_trials.specs.Search.{IsReadyOver}
-use Rattle.learning_trials.proofs.tests.search_of.Given as goal
-
-abbrev pub invariant-loop-codes : goal.invariant-loop-codes
-invariant-loop-codes l = IsReadyOver l.vars l.search

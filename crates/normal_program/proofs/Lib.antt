@@ -1,0 +1,6 @@
+pub mod ListLemmas
+pub mod SumLemmas
+pub mod RankLemmas
+pub mod NormalLemmas
+pub mod UniqueLemmas
+pub mod RangeLemmas

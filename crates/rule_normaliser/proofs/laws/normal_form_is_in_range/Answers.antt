@@ -1,5 +1,0 @@
-use Rattle.rule_normaliser.proofs.RangeLemmas.{IsNormal-in_range}
-use Rattle.rule_normaliser.proofs.laws.normal_form_is_in_range.Goals as goal
-
-pub returns : goal.returns
-returns c = IsNormal-in_range

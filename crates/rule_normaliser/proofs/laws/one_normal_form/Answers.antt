@@ -1,5 +1,0 @@
-use Rattle.rule_normaliser.proofs.UniqueLemmas.{normal_form_unique}
-use Rattle.rule_normaliser.proofs.laws.one_normal_form.Goals as goal
-
-pub returns : goal.returns
-returns c = normal_form_unique
