@@ -8,7 +8,7 @@ use Rattle.std.proofs.lemmas.List.Elements.{All-head, All-tail, All-push, All-we
 use Rattle.clause_store.specs.declared.literal.Lit.{Lit}
 use Rattle.clause_store.specs.declared.store.Span.{Span}
 use Rattle.clause_store.specs.Clause.{IsClause}
-use Rattle.clause_store.specs.Layout.{cut, clauses_of, IsSpan, IsLaidOut, IsLonger}
+use Rattle.clause_store.specs.Layout.{cut, clauses_of, IsSpan, IsLaidOut, IsExtended}
 
 pub cut_of_longer : (lits rest : List Lit) (span : Span) → IsSpan lits span → cut (lits ++ rest) span ≡ cut lits span
 cut_of_longer lits rest span is =
@@ -23,14 +23,14 @@ clauses_of_longer lits rest (span ∷ spans) within =
     ap₂ (λ c cs. c ∷ cs) (cut_of_longer lits rest span (All-head (IsSpan lits) span spans within))
     (clauses_of_longer lits rest spans (All-tail (IsSpan lits) span spans within))
 
-pub laid_out_longer : (old new : List Lit) (spans : List Span) → IsLonger old new → IsLaidOut old spans → IsLaidOut new spans
+pub laid_out_longer : (old new : List Lit) (spans : List Span) → IsExtended old new → IsLaidOut old spans → IsLaidOut new spans
 laid_out_longer old new spans (rest, is) laid =
     subst (λ n. IsLaidOut n spans) (sym is) (record {
       within = All-weaker (IsSpan old) (IsSpan (old ++ rest)) (λ span s. record { order = s.order; within = omega (arith, s.within, length-append old rest) }) spans laid.within;
       allowed = subst (All IsClause) (sym (clauses_of_longer old rest spans laid.within)) laid.allowed;
     })
 
-pub clauses_longer : (old new : List Lit) (spans : List Span) → IsLonger old new → IsLaidOut old spans → clauses_of new spans ≡ clauses_of old spans
+pub clauses_longer : (old new : List Lit) (spans : List Span) → IsExtended old new → IsLaidOut old spans → clauses_of new spans ≡ clauses_of old spans
 clauses_longer old new spans (rest, is) laid = ap (λ n. clauses_of n spans) is ∙ clauses_of_longer old rest spans laid.within
 
 -- the span of literals that were put behind cuts them out

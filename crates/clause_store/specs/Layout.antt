@@ -23,5 +23,5 @@ pub record IsLaidOut (lits : List Lit) (spans : List Span) : Type 0 where
   pub allowed : All IsClause (clauses_of lits spans)
 
 -- literals were put behind others
-abbrev pub IsLonger : List Lit → List Lit → Type 0
-IsLonger old new = (rest : List Lit) × (new ≡ old ++ rest)
+abbrev pub IsExtended : List Lit → List Lit → Type 0
+IsExtended old new = (rest : List Lit) × (new ≡ old ++ rest)

@@ -15,7 +15,7 @@ abbrev pub IsFalseOn : List Step → List Lit → Type 0
 IsFalseOn steps clause = All (IsFalse steps) clause
 
 -- a literal of a clause is unset, and all others are false
-pub record IsUnitOn (steps : List Step) (clause : List Lit) (lit : Lit) : Type 0 where
+pub record ForcesOn (steps : List Step) (clause : List Lit) (lit : Lit) : Type 0 where
   pub here : Contains clause lit
   pub unset : value_of steps lit ≡ Unset
   pub others : All (λ other. other ≢ lit → IsFalse steps other) clause

@@ -15,9 +15,9 @@ pub struct Budget {
 
 impl Model for Budget {
     ghost use Rattle.std.specs.Prelude.{length, ◌≤◌, ◌<◌, ◌^◌};
-    ghost use Rattle.clause_store.specs.Spent.{Spent};
+    ghost use Rattle.clause_store.specs.Counted.{Counted};
 
-    ghost Value = { Spent };
+    ghost Value = { Counted };
 
     ghost view = { λ budget. record { limit = budget.limit; units = budget.units } };
 

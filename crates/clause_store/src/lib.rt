@@ -6,18 +6,18 @@ mod budget;
 mod clause;
 pub mod laws;
 mod literal;
-mod says;
 mod step;
 mod store;
+mod theory_says;
 mod trail;
 
 pub use budget::Budget;
 pub use clause::{Clause, Units};
-pub use literal::{ClauseRef, Lit, Value, Var};
 pub use item_list::{Copied, List, NoMemory};
-pub use says::{Says, Short};
+pub use literal::{ClauseRef, Lit, Value, Var};
 pub use step::Step;
 pub use store::Store;
+pub use theory_says::{Says, Short};
 pub use trail::Trail;
 
 #[cfg(test)]

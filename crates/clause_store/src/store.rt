@@ -3,7 +3,7 @@
 ghost use Rattle.std.specs.Prelude.{◌≡◌, ◌<◌, [], ◌∷◌, ◌++◌, length, slice_get, Some, IfOk, OnOk, OnErr};
 ghost use Rattle.clause_store.specs.Clause.{IsClause};
 ghost use Rattle.clause_store.specs.Trail.{KeepsTrails};
-ghost use Rattle.clause_store.specs.Layout.{IsLonger};
+ghost use Rattle.clause_store.specs.Layout.{IsExtended};
 
 use crate::{ClauseRef, Lit};
 use item_list::{List, NoMemory};
@@ -83,7 +83,7 @@ impl Store {
 
 fn append(all: &mut List<Lit>, alloc: Global, lits: &[Lit]) -> Result<(), NoMemory>
     ensures ok { OnOk result (all.new ≡ all.old ++ lits.now) }
-    ensures longer { IsLonger all.old all.new }
+    ensures longer { IsExtended all.old all.new }
 {
     for lit in lits {
         all.push(alloc, *lit)?;

@@ -9,9 +9,9 @@ ghost use Rattle.normal_program.specs.Range.{IsInRange};
 ghost use Rattle.completion.specs.Completion.{AreEntailed, MakeModels};
 ghost use Rattle.completion.specs.Filling.{Gains, GainsFirst};
 
-use crate::defining::add_bodies;
-use crate::ruling::{add_false, add_rules, add_true};
-use crate::supporting::add_supports;
+use crate::body_clauses::add_bodies;
+use crate::rule_clauses::{add_false, add_rules, add_true};
+use crate::support_clauses::add_supports;
 use clause_store::{NoMemory, Store};
 use normal_program::Normal;
 use std::alloc::Global;
@@ -33,11 +33,11 @@ pub fn complete(alloc: Global, normal: &Normal, store: &mut Store) -> Result<(),
     ensures entailed { AreEntailed normal.now }
     ensures models { MakeModels normal.now }
 {
-    add_all(alloc, normal, store)
+    complete_whole(alloc, normal, store)
 }
 
 // All base clauses.
-fn add_all(alloc: Global, normal: &Normal, store: &mut Store) -> Result<(), NoMemory>
+fn complete_whole(alloc: Global, normal: &Normal, store: &mut Store) -> Result<(), NoMemory>
     requires { IsInRange normal.now }
     ensures ok { OnOk result (Gains store.old store.new (base_clauses normal.now)) }
     ensures err { OnErr result (GainsFirst store.old store.new (base_clauses normal.now)) }

@@ -1,12 +1,12 @@
 //! The clauses that hold in every answer set of a normal form.
 #![tactic(auto)]
 
-mod adding;
+mod body_clauses;
+mod clean_clauses;
 mod completing;
-mod defining;
 mod laws;
-mod ruling;
-mod supporting;
+mod rule_clauses;
+mod support_clauses;
 
 pub use completing::complete;
 pub use laws::{

@@ -15,7 +15,7 @@ use Rattle.clause_store.proofs.LiteralLemmas.{any_from, any_through, cases_lit, 
 use Rattle.clause_store.proofs.TrailLemmas.{slice_get-append}
 use Rattle.clause_store.proofs.PlaceLemmas.{place_holds, place_of_at}
 use Rattle.clause_store.specs.Standing.{IsFalse}
-use Rattle.conflict_learning.specs.Cells.{blank, is_blank, cell, AreCells, IsMarkable, Marks, IsMarkOf, IsMarkedIn, MarksAll}
+use Rattle.conflict_learning.specs.Cells.{blank, is_blank, cell, AreCells, IsMarkable, MarksCell, IsMarkOf, IsMarkedIn, MarksAll}
 use Rattle.conflict_learning.proofs.AssignedLemmas.{blank as none, refuter, step_at, false_later, false_over}
 
 -- ---- blanks
@@ -93,7 +93,7 @@ reason_markable clauses trail last at step why reason is there low k d inside =
 
 -- the literal of an assignment was put into its cell
 pub marks_set : (steps : List Step) (last place : ℕ) (lit : Lit) (step : Step) (old new : List Lit) → place_of steps (variable lit) ≡ Some place → slice_get steps place ≡ Some step
-    → new ≡ set old (last + 1 - place) step.lit → Marks steps last lit old new
+    → new ≡ set old (last + 1 - place) step.lit → MarksCell steps last lit old new
 marks_set steps last place lit step old new found there is =
     record {
       unset = λ none. absurd (cc);
@@ -173,7 +173,7 @@ marks_at trail last place step lits lit start old low found there all =
 
 -- one literal more
 pub marks_more : (trail : Assigned) (last : ℕ) (lits : List Lit) (lit : Lit) (start old new : List Lit) → IsMarkable trail last lit → MarksAll trail.steps last lits start old
-    → Marks trail.steps last lit old new → MarksAll trail.steps last (lits ++ lit ∷ []) start new
+    → MarksCell trail.steps last lit old new → MarksAll trail.steps last (lits ++ lit ∷ []) start new
 marks_more trail last lits lit start old new markable all marks = go (place_of trail.steps (variable lit)) refl
   where
     go : (found : Option ℕ) → place_of trail.steps (variable lit) ≡ found → MarksAll trail.steps last (lits ++ lit ∷ []) start new

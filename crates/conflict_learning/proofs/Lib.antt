@@ -5,6 +5,6 @@ pub mod WalkLemmas
 pub mod ClearLemmas
 pub mod LearnedLemmas
 pub mod CellLemmas
-pub mod RefusalLemmas
+pub mod CoreLemmas
 pub mod UnitLemmas
 pub mod TestLemmas

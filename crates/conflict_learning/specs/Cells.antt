@@ -6,7 +6,7 @@ use Rattle.clause_store.specs.Clause.{variable, negation}
 use Rattle.clause_store.specs.Entailment.{InClosure, IsClosed}
 use Rattle.clause_store.specs.Trail.{Assigned, IsTrail, place_of}
 use Rattle.conflict_learning.specs.Analysis.{level_at}
-use Rattle.conflict_learning.specs.Refusal.{IsDecision}
+use Rattle.conflict_learning.specs.AssumptionCore.{IsDecision}
 
 -- what stands in a cell without a literal
 abbrev pub blank : Lit
@@ -24,7 +24,7 @@ cell core at = slice_index_or core at blank
 abbrev pub IsFilled : List Lit → ℕ → Type 0
 IsFilled core at = cell core at ≢ blank
 
--- a list has the literals of all cells behind the refused literal
+-- a list has the literals of all cells behind the failed literal
 abbrev pub HasFilled : List Lit → List Lit → Type 0
 HasFilled known core = (at : ℕ) → 1 ≤ at → IsFilled core at → Contains known (cell core at)
 
@@ -38,13 +38,13 @@ pub record AreCells (steps : List Step) (last : ℕ) (core : List Lit) : Type 0 
   pub ground : (place : ℕ) (step : Step) → place + length core ≤ last + 1
       → slice_get steps place ≡ Some step → step.level ≡ 0
 
--- decisions stand behind the refused literal and give its negation: none at level 0
-pub record AddsDecisions (clauses : List (List Lit)) (steps : List Step) (refused : Lit) (core : List Lit) : Type 0 where
+-- decisions stand behind the failed literal and give its negation: none at level 0
+pub record AddsDecisions (clauses : List (List Lit)) (steps : List Step) (failed : Lit) (core : List Lit) : Type 0 where
   pub decisions : List Lit
-  pub is : core ≡ refused ∷ decisions
+  pub is : core ≡ failed ∷ decisions
   pub decided : All (IsDecision steps) decisions
-  pub gives : InClosure clauses decisions (negation refused)
-  pub alone : level_at steps refused ≡ 0 → decisions ≡ []
+  pub gives : InClosure clauses decisions (negation failed)
+  pub alone : level_at steps failed ≡ 0 → decisions ≡ []
 
 -- a blank was added for each assignment from `last` back to one at `low`, and all earlier ones are of
 -- level 0
@@ -64,7 +64,7 @@ pub record IsMarkable (trail : Assigned) (last : ℕ) (lit : Lit) : Type 0 where
   pub before : (place : ℕ) → place_of trail.steps (variable lit) ≡ Some place → place ≤ last
 
 -- the literal of the assignment of a variable was put into its cell, if it has one
-pub record Marks (steps : List Step) (last : ℕ) (lit : Lit) (old new : List Lit) : Type 0 where
+pub record MarksCell (steps : List Step) (last : ℕ) (lit : Lit) (old new : List Lit) : Type 0 where
   pub unset : place_of steps (variable lit) ≡ None → new ≡ old
   pub assigned : (place : ℕ) (step : Step) → place_of steps (variable lit) ≡ Some place
       → slice_get steps place ≡ Some step → new ≡ slice_set old (last + 1 - place) step.lit
@@ -101,7 +101,7 @@ pub record Explains (clauses : List (List Lit)) (steps : List Step) (last at : �
   pub gives : (known : List Lit) → IsClosed clauses known → HasFilled known new
       → HasFilled known old
 
--- all literals behind the refused one were replaced by decisions that give them
+-- all literals behind the failed one were replaced by decisions that give them
 pub record ExplainsAll (clauses : List (List Lit)) (steps : List Step) (last : ℕ) (old new : List Lit) : Type 0 where
   pub sized : length new ≡ length old
   pub cells : AreCells steps last new

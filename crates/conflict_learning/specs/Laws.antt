@@ -3,7 +3,7 @@ use Rattle.std.specs.Prelude.{◌≡◌, ◌<◌, ℕ, List, All}
 use Rattle.clause_store.specs.declared.literal.Lit.{Lit}
 use Rattle.clause_store.specs.declared.step.Step.{Step}
 use Rattle.clause_store.specs.Entailment.{others}
-use Rattle.clause_store.specs.Standing.{IsFalse, IsUnitOn}
+use Rattle.clause_store.specs.Standing.{IsFalse, ForcesOn}
 use Rattle.clause_store.specs.Trail.{Assigned, IsTrail, present_level, up_to}
 use Rattle.conflict_learning.specs.Analysis.{IsAsserting, greatest_level}
 
@@ -20,4 +20,4 @@ LearnedIsAUnit =
     (trail : Assigned) (clause : List Lit) (lit : Lit) (back : ℕ) → IsTrail trail
     → 0 < present_level trail.steps → All (IsFalse trail.steps) clause
     → IsAsserting trail.steps clause lit → back ≡ greatest_level trail.steps (others clause lit)
-    → IsUnitOn (up_to back trail.steps) clause lit
+    → ForcesOn (up_to back trail.steps) clause lit

@@ -1,5 +1,5 @@
 pub mod Analysis
-pub mod Refusal
+pub mod AssumptionCore
 pub mod Cells
 pub mod Marks
 pub mod Walk

@@ -3,15 +3,15 @@
 #![tactic(auto)]
 
 mod analysis;
+mod assumption_core;
 pub mod laws;
 mod learned;
 mod marks;
-mod refusal;
 mod walk;
 
 pub use analysis::{analyse, greatest_level};
+pub use assumption_core::final_core;
 pub use learned::Learned;
-pub use refusal::final_core;
 
 #[cfg(test)]
 mod tests;

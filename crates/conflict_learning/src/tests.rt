@@ -132,12 +132,12 @@ fn cores_name_what_matters(rt: HostRuntime) -> Result<(), Fail> {
         (Lit(11), Some(Lit(4))),
     ];
     let mut core = Clause::open();
-    for (refused, decided) in cases {
-        assert!(rt; trail.has(refused) && trail.value(refused) == Value::No);
-        final_core(alloc, &store, &trail, refused, &mut core)?;
+    for (failed, decided) in cases {
+        assert!(rt; trail.has(failed) && trail.value(failed) == Value::No);
+        final_core(alloc, &store, &trail, failed, &mut core)?;
         match decided {
-            None => assert!(rt; core.as_slice() == [refused].as_slice()),
-            Some(decision) => assert!(rt; core.as_slice() == [refused, decision].as_slice()),
+            None => assert!(rt; core.as_slice() == [failed].as_slice()),
+            Some(decision) => assert!(rt; core.as_slice() == [failed, decision].as_slice()),
         }
     }
     Ok(())

@@ -9,13 +9,13 @@ mod program;
 mod tests;
 mod validity;
 
+pub use item_list::{Copied, List, NoMemory};
 pub use laws::{
     answer_sets_are_least, opening_pair_encloses, some_rule_fails, within_is_reflexive,
     within_is_transitive,
 };
 pub use meaning::{has_atom, holds_in, is_model};
 pub use pair::Pair;
-pub use item_list::{Copied, List, NoMemory};
 pub use program::{
     AtomLit, Atoms, Bits, Body, Broken, Kind, Mode, Name, Named, Names, Pairs, Program, Rule,
     Rules, Set, Sets, Weighted,

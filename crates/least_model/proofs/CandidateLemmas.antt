@@ -4,9 +4,8 @@ use Rattle.std.specs.List.{All}
 use Rattle.std.proofs.lemmas.Bool.{both_ways, cases_Bool}
 use Rattle.ground_program.specs.declared.program.Rule.{Rule}
 use Rattle.ground_program.specs.declared.program.Program.{Program}
-use Rattle.ground_program.specs.Meaning.{IsAnswerSet, IsIn, IsProperSubset, IsSetOver, Keeps, KeepsAll, SomeFails, has}
+use Rattle.ground_program.specs.Meaning.{IsPart, IsAnswerSet, IsIn, IsProperSubset, IsSetOver, Keeps, KeepsAll, SomeFails, has}
 use Rattle.least_model.specs.Candidate.{IsOnlyCandidate}
-use Rattle.least_model.specs.Rounds.{IsPart}
 use Rattle.least_model.proofs.RuleLemmas.{IsKnown, all_keep_by, each_or_some, keeps_or_not, none_fails}
 use Rattle.least_model.proofs.SetLemmas.{same_sets}
 

@@ -6,11 +6,11 @@ use Rattle.std.proofs.lemmas.List.Elements.{All-nil, All-push, All-weaker}
 use Rattle.std.proofs.lemmas.Option.{get_or_from_slice_get}
 use Rattle.ground_program.specs.declared.program.Rule.{Rule}
 use Rattle.ground_program.specs.declared.program.Program.{Program}
-use Rattle.ground_program.specs.Meaning.{IsIn, IsSetOver, Keeps, KeepsAll, has}
+use Rattle.ground_program.specs.Meaning.{IsPart, IsIn, IsSetOver, Keeps, KeepsAll, has}
 use Rattle.ground_program.specs.Program.{IsProgram}
 use Rattle.least_model.specs.Candidate.{IsOnlyCandidate}
 use Rattle.least_model.specs.Definite.{IsDefinite}
-use Rattle.least_model.specs.Rounds.{Grows, IsEmptySet, IsPart, Suits, TriesAll, TriesRule, missing}
+use Rattle.least_model.specs.Rounds.{Grows, IsEmptySet, Suits, TriesAll, TriesRule, missing}
 use Rattle.least_model.proofs.BodyLemmas.{HasPart}
 use Rattle.least_model.proofs.CandidateLemmas.{only_candidate}
 use Rattle.least_model.proofs.HeadLemmas.{heads_have_positions}

@@ -2,13 +2,9 @@
 use Rattle.std.specs.Prelude.{◌≡◌, ◌<◌, ◌≤◌, ℕ, Bool, not, List, length, All, count_by, slice_get}
 use Rattle.std.specs.Bool.{OnTrue, OnFalse}
 use Rattle.ground_program.specs.declared.program.Rule.{Rule}
-use Rattle.ground_program.specs.Meaning.{IsIn, IsSetOver, Keeps, KeepsAll}
+use Rattle.ground_program.specs.Meaning.{IsIn, IsPart, IsSetOver, Keeps, KeepsAll}
 use Rattle.ground_program.specs.Program.{IsRule}
 use Rattle.least_model.specs.Definite.{IsDefiniteRule}
-
--- each atom of the first set is in the second
-abbrev pub IsPart : List Bool → List Bool → Type 0
-IsPart part whole = (atom : ℕ) → IsIn part atom → IsIn whole atom
 
 -- the number of positions that are still false
 abbrev pub missing : List Bool → ℕ

@@ -16,10 +16,10 @@ use Rattle.lparse_reader.specs.declared.rule_text.Counts.{Counts}
 use Rattle.lparse_reader.specs.Tokens.{skipped}
 use Rattle.lparse_reader.specs.Fields.{◌>>=◌, behind, number_at, atom_at, counted_at, part_at, weighed_at}
 use Rattle.lparse_reader.specs.Reading.{counts_at, body_at, heads_at}
-use Rattle.lparse_reader.specs.Pieces.{Item, number, StandsNumber, Row, body_atoms, body_weights, negatives, numbers}
+use Rattle.lparse_reader.specs.Pieces.{Item, number, StandsNumber, PieceRow, body_atoms, body_weights, negatives, numbers}
 use Rattle.lparse_reader.proofs.NumberPieces.{bind_ok, chosen, ok_is, number_stands, number_again}
 use Rattle.lparse_reader.proofs.RowPieces.{counted_stands, counted_again, row_join, row_split}
-use Rattle.lparse_reader.proofs.FieldPieces.{IsAtom, IsPart, part_item, atom_stands, atom_again, part_stands, part_again}
+use Rattle.lparse_reader.proofs.FieldPieces.{IsAtom, IsWeightedPart, part_item, atom_stands, atom_again, part_stands, part_again}
 
 -- ---- the number of literals and of negatives
 
@@ -66,7 +66,7 @@ counts_again bytes middle rest literals negatives order first second =
 pub record ReadHeads (bytes heads rest : List ℕ) : Type 0 where
   pub middle : List ℕ
   pub count : StandsNumber (length heads) bytes middle
-  pub row : Row (numbers heads) middle rest
+  pub row : PieceRow (numbers heads) middle rest
   pub each : AllByRecursion IsAtom heads
 
 pub heads_stand : (bytes heads rest : List ℕ) → heads_at bytes ≡ Ok (heads, rest) → ReadHeads bytes heads rest
@@ -109,15 +109,15 @@ ordered_from_first (part ∷ body) first = (
 )
 
 -- negatives and then positives
-pub positives_ordered : (back : List Weighted) → AllByRecursion (IsPart false) back → Ordered back
+pub positives_ordered : (back : List Weighted) → AllByRecursion (IsWeightedPart false) back → Ordered back
 positives_ordered [] each = tt
 positives_ordered (part ∷ back) each = (after_positive part back each.1, positives_ordered back each.1)
   where
-    after_positive : (part : Weighted) (back : List Weighted) → AllByRecursion (IsPart false) back → AllByRecursion (IsBefore part) back
+    after_positive : (part : Weighted) (back : List Weighted) → AllByRecursion (IsWeightedPart false) back → AllByRecursion (IsBefore part) back
     after_positive part [] each = tt
     after_positive part (next ∷ back) each = (λ negative. absurd (let wrong = sym each.0.negated_is ∙ negative in cc), after_positive part back each.1)
 
-pub negatives_ordered : (front back : List Weighted) → AllByRecursion (IsPart true) front → AllByRecursion (IsPart false) back → Ordered (front ++ back)
+pub negatives_ordered : (front back : List Weighted) → AllByRecursion (IsWeightedPart true) front → AllByRecursion (IsWeightedPart false) back → Ordered (front ++ back)
 negatives_ordered [] back negative positive = positives_ordered back positive
 negatives_ordered (part ∷ front) back negative positive = (after_negative part (front ++ back) negative.0.negated_is, negatives_ordered front back negative.1 positive)
   where
@@ -132,13 +132,13 @@ one_negative part = cond part.lit.negated 1 0
 negatives-cons : (part : Weighted) (body : List Weighted) → negatives (part ∷ body) ≡ one_negative part + negatives body
 negatives-cons part body = sum_by-cons one_negative part body
 
-pub no_negatives : (back : List Weighted) → AllByRecursion (IsPart false) back → negatives back ≡ 0
+pub no_negatives : (back : List Weighted) → AllByRecursion (IsWeightedPart false) back → negatives back ≡ 0
 no_negatives [] each = refl
 no_negatives (part ∷ back) each =
     let one : one_negative part ≡ 0 = rw each.0.negated_is refl in
     omega (arith, negatives-cons part back, one, no_negatives back each.1)
 
-pub front_negatives : (front back : List Weighted) → AllByRecursion (IsPart true) front → AllByRecursion (IsPart false) back → negatives (front ++ back) ≡ length front
+pub front_negatives : (front back : List Weighted) → AllByRecursion (IsWeightedPart true) front → AllByRecursion (IsWeightedPart false) back → negatives (front ++ back) ≡ length front
 front_negatives [] back negative positive = no_negatives back positive
 front_negatives (part ∷ front) back negative positive =
     let one : one_negative part ≡ 1 = rw negative.0.negated_is refl in
@@ -156,7 +156,7 @@ AreOnes body = AllByRecursion (λ part. part.weight ≡ 1) body
 abbrev pub AreAtoms : List Weighted → Type 0
 AreAtoms body = AllByRecursion (λ part. IsAtom part.lit.atom) body
 
-ones_from_parts : (negated : Bool) (body : List Weighted) → AllByRecursion (IsPart negated) body → AreOnes body × AreAtoms body
+ones_from_parts : (negated : Bool) (body : List Weighted) → AllByRecursion (IsWeightedPart negated) body → AreOnes body × AreAtoms body
 ones_from_parts negated [] each = (tt, tt)
 ones_from_parts negated (part ∷ body) each =
     let more = ones_from_parts negated body each.1 in
@@ -167,7 +167,7 @@ each_join P [] back first second = second
 each_join P (part ∷ front) back first second = (first.0, each_join P front back first.1 second)
 
 pub record ReadBody (counts : Counts) (bytes : List ℕ) (body : List Weighted) (rest : List ℕ) : Type 0 where
-  pub row : Row (numbers (body_atoms body)) bytes rest
+  pub row : PieceRow (numbers (body_atoms body)) bytes rest
   pub len : length body ≡ counts.negatives + counts.positives
   pub negatives_is : negatives body ≡ counts.negatives
   pub ordered : Ordered body
@@ -181,14 +181,14 @@ body_stands counts bytes body rest e =
     let front = first.0.0 in
     let second = bind_ok (counted_at (part_at false) counts.positives first.0.1) (λ more. Ok (front ++ more.0, more.1)) (body, rest) first.2 in
     let back = second.0.0 in
-    let negative = counted_stands (part_at true) part_item (IsPart true) (part_stands true) counts.negatives bytes front first.0.1 first.1 in
-    let positive = counted_stands (part_at false) part_item (IsPart false) (part_stands false) counts.positives first.0.1 back second.0.1 second.1 in
+    let negative = counted_stands (part_at true) part_item (IsWeightedPart true) (part_stands true) counts.negatives bytes front first.0.1 first.1 in
+    let positive = counted_stands (part_at false) part_item (IsWeightedPart false) (part_stands false) counts.positives first.0.1 back second.0.1 second.1 in
     let ones_front = ones_from_parts true front negative.each in
     let ones_back = ones_from_parts false back positive.each in
     let items : map part_item front ++ map part_item back ≡ numbers (body_atoms (front ++ back)) = sym (map-append part_item front back) ∙ part_items (front ++ back) in
     subst (λ (p : List Weighted × List ℕ). ReadBody counts bytes p.0 p.1) (ok_is (front ++ back, second.0.1) (body, rest) second.2)
     (record {
-      row = subst (λ (is : List Item). Row is bytes second.0.1) items (row_join (map part_item front) (map part_item back) bytes first.0.1 second.0.1 negative.row positive.row);
+      row = subst (λ (is : List Item). PieceRow is bytes second.0.1) items (row_join (map part_item front) (map part_item back) bytes first.0.1 second.0.1 negative.row positive.row);
       len = omega (arith, length-append front back, negative.count_is, positive.count_is);
       negatives_is = front_negatives front back negative.each positive.each ∙ negative.count_is;
       ordered = negatives_ordered front back negative.each positive.each;
@@ -201,10 +201,10 @@ pub record Halves (body : List Weighted) : Type 0 where
   pub front : List Weighted
   pub back : List Weighted
   pub whole : front ++ back ≡ body
-  pub negative : AllByRecursion (IsPart true) front
-  pub positive : AllByRecursion (IsPart false) back
+  pub negative : AllByRecursion (IsWeightedPart true) front
+  pub positive : AllByRecursion (IsWeightedPart false) back
 
-positives_after : (part : Weighted) (body : List Weighted) → part.lit.negated ≡ false → AllByRecursion (IsBefore part) body → AreOnes body → AreAtoms body → AllByRecursion (IsPart false) body
+positives_after : (part : Weighted) (body : List Weighted) → part.lit.negated ≡ false → AllByRecursion (IsBefore part) body → AreOnes body → AreAtoms body → AllByRecursion (IsWeightedPart false) body
 positives_after part [] is_positive before ones atoms = tt
 positives_after part (next ∷ body) is_positive before ones atoms = (
   record { negated_is = no_negative part.lit.negated next.lit.negated is_positive before.0; weight_is = ones.0; atom = atoms.0 },
@@ -236,23 +236,23 @@ halves [] ordered ones atoms = record { front = []; back = []; whole = refl; neg
 halves (part ∷ body) ordered ones atoms =
     halves_step part body part.lit.negated refl ordered ones atoms (halves body ordered.1 ones.1 atoms.1)
 
-halves_again : (front back : List Weighted) (bytes rest : List ℕ) → AllByRecursion (IsPart true) front → AllByRecursion (IsPart false) back → Row (numbers (body_atoms (front ++ back))) bytes rest
+halves_again : (front back : List Weighted) (bytes rest : List ℕ) → AllByRecursion (IsWeightedPart true) front → AllByRecursion (IsWeightedPart false) back → PieceRow (numbers (body_atoms (front ++ back))) bytes rest
     → body_at (counts_of (length (front ++ back)) (negatives (front ++ back))) bytes ≡ Ok (front ++ back, rest)
 unfolding body_at
 halves_again front back bytes rest negative positive row =
     let items : numbers (body_atoms (front ++ back)) ≡ map part_item front ++ map part_item back = sym (part_items (front ++ back)) ∙ map-append part_item front back in
-    let parts = row_split (map part_item front) (map part_item back) bytes rest (subst (λ (is : List Item). Row is bytes rest) items row) in
-    let first = counted_again (part_at true) part_item (IsPart true) (part_again true) front bytes parts.0 negative parts.1 in
-    let second = counted_again (part_at false) part_item (IsPart false) (part_again false) back parts.0 rest positive parts.2 in
+    let parts = row_split (map part_item front) (map part_item back) bytes rest (subst (λ (is : List Item). PieceRow is bytes rest) items row) in
+    let first = counted_again (part_at true) part_item (IsWeightedPart true) (part_again true) front bytes parts.0 negative parts.1 in
+    let second = counted_again (part_at false) part_item (IsWeightedPart false) (part_again false) back parts.0 rest positive parts.2 in
     let count : negatives (front ++ back) ≡ length front = front_negatives front back negative positive in
     let others : length (front ++ back) - negatives (front ++ back) ≡ length back = omega (arith, count, length-append front back) in
     rw (others, count, first, second) refl
 
-pub body_again : (body : List Weighted) (bytes rest : List ℕ) → Ordered body → AreOnes body → AreAtoms body → Row (numbers (body_atoms body)) bytes rest
+pub body_again : (body : List Weighted) (bytes rest : List ℕ) → Ordered body → AreOnes body → AreAtoms body → PieceRow (numbers (body_atoms body)) bytes rest
     → body_at (counts_of (length body) (negatives body)) bytes ≡ Ok (body, rest)
 body_again body bytes rest ordered ones atoms row =
     let parts = halves body ordered ones atoms in
-    let again = halves_again parts.front parts.back bytes rest parts.negative parts.positive (subst (λ (b : List Weighted). Row (numbers (body_atoms b)) bytes rest) (sym parts.whole) row) in
+    let again = halves_again parts.front parts.back bytes rest parts.negative parts.positive (subst (λ (b : List Weighted). PieceRow (numbers (body_atoms b)) bytes rest) (sym parts.whole) row) in
     subst (λ (b : List Weighted). body_at (counts_of (length b) (negatives b)) bytes ≡ Ok (b, rest)) parts.whole again
 
 pub negatives_few : (body : List Weighted) → negatives body ≤ length body
@@ -266,7 +266,7 @@ plain [] = []
 plain (part ∷ body) = record { lit = part.lit; weight = 1 } ∷ plain body
 
 pub record ReadWeights (parts : List Weighted) (bytes : List ℕ) (body : List Weighted) (rest : List ℕ) : Type 0 where
-  pub row : Row (numbers (body_weights body)) bytes rest
+  pub row : PieceRow (numbers (body_weights body)) bytes rest
   pub parts_are : plain body ≡ parts
   pub small : AllByRecursion (λ part. IsNumber part.weight) body
 
@@ -288,7 +288,7 @@ weights_stand (part ∷ parts) bytes body rest ones e =
       small = (stands.numeral.small, more.small);
     })
 
-pub weights_again : (body : List Weighted) (bytes rest : List ℕ) → Row (numbers (body_weights body)) bytes rest → weighed_at (plain body) bytes ≡ Ok (body, rest)
+pub weights_again : (body : List Weighted) (bytes rest : List ℕ) → PieceRow (numbers (body_weights body)) bytes rest → weighed_at (plain body) bytes ≡ Ok (body, rest)
 unfolding weighed_at
 weights_again [] bytes rest row = ap (λ (r : List ℕ). Ok ([], r)) row
 weights_again (part ∷ body) bytes rest row =

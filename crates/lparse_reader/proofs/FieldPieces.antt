@@ -92,7 +92,7 @@ atoms_again = record {
 
 -- ---- literals of the weight 1
 
-pub record IsPart (negated : Bool) (part : Weighted) : Type 0 where
+pub record IsWeightedPart (negated : Bool) (part : Weighted) : Type 0 where
   pub negated_is : part.lit.negated ≡ negated
   pub weight_is : part.weight ≡ 1
   pub atom : IsAtom part.lit.atom
@@ -103,19 +103,19 @@ part_item part = number part.lit.atom
 abbrev made_part : Bool → ℕ → ℕ → Weighted
 made_part negated atom weight = record { lit = record { atom = atom; negated = negated }; weight = weight }
 
-same_part : (negated : Bool) (part : Weighted) → IsPart negated part → made_part negated part.lit.atom 1 ≡ part
+same_part : (negated : Bool) (part : Weighted) → IsWeightedPart negated part → made_part negated part.lit.atom 1 ≡ part
 same_part negated part is_part =
     ap (λ (b : Bool). made_part b part.lit.atom 1) (sym is_part.negated_is) ∙ ap (λ (w : ℕ). made_part part.lit.negated part.lit.atom w) (sym is_part.weight_is)
 
-pub part_stands : (negated : Bool) → ReadsItem (part_at negated) part_item (IsPart negated)
+pub part_stands : (negated : Bool) → ReadsItem (part_at negated) part_item (IsWeightedPart negated)
 unfolding part_at
 part_stands negated bytes part rest e =
     let read = bind_ok (atom_at bytes) (λ atom. Ok (made_part negated atom.0 1, atom.1)) (part, rest) e in
     let stands = atom_stands bytes read.0.0 read.0.1 read.1 in
-    subst (λ (p : Weighted × List ℕ). StandsNumber p.0.lit.atom bytes p.1 × IsPart negated p.0) (ok_is (made_part negated read.0.0 1, read.0.1) (part, rest) read.2)
+    subst (λ (p : Weighted × List ℕ). StandsNumber p.0.lit.atom bytes p.1 × IsWeightedPart negated p.0) (ok_is (made_part negated read.0.0 1, read.0.1) (part, rest) read.2)
     (stands.0, record { negated_is = refl; weight_is = refl; atom = stands.1 })
 
-pub part_again : (negated : Bool) → ReadAgain (part_at negated) part_item (IsPart negated)
+pub part_again : (negated : Bool) → ReadAgain (part_at negated) part_item (IsWeightedPart negated)
 unfolding part_at
 part_again negated bytes part rest is_part stands =
     rw (atom_again bytes part.lit.atom rest is_part.atom stands) (ap (λ (p : Weighted). Ok (p, rest)) (same_part negated part is_part))

@@ -4,7 +4,7 @@ use Rattle.std.specs.Prelude.{replicate}
 use Rattle.std.specs.List.{AllByRecursion}
 use Rattle.lparse_reader.specs.declared.fault.Fault.{Fault}
 use Rattle.lparse_reader.specs.Fields.{◌>>=◌, Field, behind, counted_at}
-use Rattle.lparse_reader.specs.Pieces.{Item, Stands, Row}
+use Rattle.lparse_reader.specs.Pieces.{Item, Stands, PieceRow}
 use Rattle.lparse_reader.specs.Due.{Due, after_item, run}
 use Rattle.lparse_reader.specs.Refuses.{FailsNext, IsItem, Breaks}
 use Rattle.lparse_reader.proofs.NumberPieces.{bind_ok, ok_is}
@@ -14,7 +14,7 @@ use Rattle.lparse_reader.proofs.FaultPieces.{bind_err}
 -- some fields of those that are due stand one after the other, and these are due then
 pub record Passes (agenda : List Due) (bytes : List ℕ) (left : List Due) (rest : List ℕ) : Type 0 where
   pub items : List Item
-  pub row : Row items bytes rest
+  pub row : PieceRow items bytes rest
   pub good : AllByRecursion IsItem items
   pub ran : run agenda items ≡ Some left
 

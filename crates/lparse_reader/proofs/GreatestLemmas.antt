@@ -11,10 +11,10 @@ greatest-append [] back = omega arith
 greatest-append (first ∷ front) back = omega (arith, greatest-append front back)
 
 -- one more number is taken
-pub greatest_goes_on : {A : Type 0} (number_of : A → ℕ) (items : List A) (i : ℕ) (d : A) (most total : ℕ) → i < length items
-    → max most (greatest (map number_of (drop i items))) ≡ total → max (max most (number_of (get_or items i d))) (greatest (map number_of (drop (i + 1) items))) ≡ total
-greatest_goes_on number_of items i d most total lt so_far =
-    let one = at_drop_more (λ rest. greatest (map number_of rest)) items i d lt in
+pub greatest_goes_on : {A : Type 0} (read_number : A → ℕ) (items : List A) (i : ℕ) (d : A) (most total : ℕ) → i < length items
+    → max most (greatest (map read_number (drop i items))) ≡ total → max (max most (read_number (get_or items i d))) (greatest (map read_number (drop (i + 1) items))) ≡ total
+greatest_goes_on read_number items i d most total lt so_far =
+    let one = at_drop_more (λ rest. greatest (map read_number rest)) items i d lt in
     omega (arith, one, so_far)
 
 -- the atoms of one more rule are taken

@@ -9,7 +9,7 @@ use Rattle.lparse_reader.specs.declared.fault.Fault.TheVariants.{At}
 use Rattle.lparse_reader.specs.declared.fault.TextFault.TheVariants.{MissingMark, ExternalSection, NameMissing}
 use Rattle.lparse_reader.specs.Tokens.{is_separator, skipped}
 use Rattle.lparse_reader.specs.Fields.{◌>>=◌, number_at, name_at, entry_or_end_at, mark_here, mark_at, is_external, models_at, end_here, end_at}
-use Rattle.lparse_reader.specs.Pieces.{Item, number, entry, mark, IsGap, StandsNumber, StandsMark, StandsEntry, Stands, Row}
+use Rattle.lparse_reader.specs.Pieces.{Item, number, entry, mark, IsGap, StandsNumber, StandsMark, StandsEntry, Stands, PieceRow}
 use Rattle.lparse_reader.specs.Due.{Due, rules, atom, any_number, head_count, literal_count, negative_count, entries, sign, atoms, models, after_number, after_entry, after_mark_of, after_item, run}
 use Rattle.lparse_reader.specs.Refuses.{NoToken, BadNumber, bad_value, BadValue, NoName, NoMark, External, BadModels, Trailing, FailsAt, FailsNext, IsItem}
 use Rattle.lparse_reader.proofs.NumberPieces.{ok_is, skipped_gap, skipped_token, number_again}
@@ -236,7 +236,7 @@ pub record Ends (agenda : List Due) (bytes : List ℕ) (outcome : Option Fault) 
   pub items : List Item
   pub middle : List ℕ
   pub left : List Due
-  pub row : Row items bytes middle
+  pub row : PieceRow items bytes middle
   pub good : AllByRecursion IsItem items
   pub ran : run agenda items ≡ Some left
   pub so : Outcome left middle outcome
@@ -290,8 +290,8 @@ abbrev pair : Item → List ℕ → Item × List ℕ
 pair item rest = (item, rest)
 
 pub same_outcome : (items others : List Item) (agenda : List Due) (bytes middle after : List ℕ) (left due_then : List Due) (first second : Option Fault) → length bytes < 2 ^ 31
-    → Row items bytes middle → AllByRecursion IsItem items → run agenda items ≡ Some left → Outcome left middle first
-    → Row others bytes after → AllByRecursion IsItem others → run agenda others ≡ Some due_then → Outcome due_then after second → first ≡ second
+    → PieceRow items bytes middle → AllByRecursion IsItem items → run agenda items ≡ Some left → Outcome left middle first
+    → PieceRow others bytes after → AllByRecursion IsItem others → run agenda others ≡ Some due_then → Outcome due_then after second → first ≡ second
 same_outcome [] [] agenda bytes middle after left due_then first second few row good ran so row2 good2 ran2 so2 =
     let here : Outcome agenda bytes first = subst (λ (d : List Due). Outcome d bytes first) (sym (some_due agenda left ran)) (subst (λ (b : List ℕ). Outcome left b first) (sym row) so) in
     let there : Outcome agenda bytes second = subst (λ (d : List Due). Outcome d bytes second) (sym (some_due agenda due_then ran2)) (subst (λ (b : List ℕ). Outcome due_then b second) (sym row2) so2) in
@@ -312,7 +312,7 @@ same_outcome (item ∷ items) (other ∷ others) (due ∷ agenda) bytes middle a
     let same_item : item ≡ other = ap (λ (p : Item × List ℕ). p.0) same in
     let same_rest : row.0 ≡ row2.0 = ap (λ (p : Item × List ℕ). p.1) same in
     let same_more : step1.more ≡ step2.more = some_due step1.more step2.more (sym step1.after ∙ ap (after_item due) same_item ∙ step2.after) in
-    let row2_here : Row others row.0 after = subst (λ (b : List ℕ). Row others b after) (sym same_rest) row2.2 in
+    let row2_here : PieceRow others row.0 after = subst (λ (b : List ℕ). PieceRow others b after) (sym same_rest) row2.2 in
     let ran2_here : run (step1.more ++ agenda) others ≡ Some due_then = subst (λ (d : List Due). run (d ++ agenda) others ≡ Some due_then) (sym same_more) step2.ran in
     same_outcome items others (step1.more ++ agenda) row.0 middle after left due_then first second
     (omega (arith, few, piece_shrinks item bytes row.0 row.1)) row.2 good.1 step1.ran so row2_here good2.1 ran2_here so2

@@ -6,11 +6,11 @@ use Rattle.lparse_reader.specs.declared.fault.Fault.{Fault}
 use Rattle.lparse_reader.specs.declared.fault.ReadError.{ReadError}
 use Rattle.lparse_reader.specs.declared.fault.ReadError.TheVariants.{Text, TooLong, ReadFault, NoMemory}
 use Rattle.lparse_reader.specs.Reading.{program_at}
-use Rattle.lparse_reader.specs.Refusal.{IsAnswer, IsProgramUnlessNoMemory, IsProgramUnlessSource, IsShortIfRead}
+use Rattle.lparse_reader.specs.Refusal.{IsReadAnswer, IsProgramUnlessNoMemory, IsProgramUnlessSource, IsShortIfRead}
 use Rattle.lparse_reader.specs.Pieces.{Reads}
 use Rattle.lparse_reader.proofs.WholePieces.{reads_program, program_again}
 
-pub answer_reads : (bytes : List ℕ) (result : Result Program ReadError) → length bytes ≤ 67108864 → IsAnswer bytes result (program_at bytes) → IfOk result (Reads bytes)
+pub answer_reads : (bytes : List ℕ) (result : Result Program ReadError) → length bytes ≤ 67108864 → IsReadAnswer bytes result (program_at bytes) → IfOk result (Reads bytes)
 answer_reads bytes (Ok program) few answer = reads_program bytes program few answer
 answer_reads bytes (Err error) few answer = tt
 
@@ -26,7 +26,7 @@ some_program p q read first second = ok_is p q (sym first ∙ second)
 no_fault : (fault : Fault) (program : Program) (read : Result Program Fault) → read ≡ Err fault → read ≡ Ok program → ⊥
 no_fault fault program read first second = let wrong = sym first ∙ second in cc
 
-pub answer_all_read : (bytes : List ℕ) (result : Result Program ReadError) (program : Program) → IsAnswer bytes result (program_at bytes) → Reads bytes program → IsProgramUnlessNoMemory result program
+pub answer_all_read : (bytes : List ℕ) (result : Result Program ReadError) (program : Program) → IsReadAnswer bytes result (program_at bytes) → Reads bytes program → IsProgramUnlessNoMemory result program
 answer_all_read bytes (Ok found) program answer reads = some_program found program (program_at bytes) answer (program_again bytes program reads)
 answer_all_read bytes (Err NoMemory) program answer reads = tt
 answer_all_read bytes (Err TooLong) program answer reads = answer

@@ -7,13 +7,13 @@ use Rattle.lparse_reader.specs.declared.fault.Fault.{Fault}
 use Rattle.lparse_reader.specs.declared.fault.ReadError.{ReadError}
 use Rattle.lparse_reader.specs.declared.fault.ReadError.TheVariants.{Text, TooLong, ReadFault, NoMemory}
 use Rattle.lparse_reader.specs.Reading.{program_at}
-use Rattle.lparse_reader.specs.Refusal.{IsAnswer, told}
+use Rattle.lparse_reader.specs.Refusal.{IsReadAnswer, told}
 use Rattle.lparse_reader.specs.Due.{whole}
 use Rattle.lparse_reader.specs.Refuses.{Breaks, Refuses, IsRefused, IsTextUnlessNoMemory, IsRefusedOfSource, IsTextUnlessSource}
 use Rattle.lparse_reader.proofs.WholeFollows.{program_passes, program_breaks}
 use Rattle.lparse_reader.proofs.OneOutcome.{same_outcome}
 
-pub answer_refused : (bytes : List ℕ) (result : Result Program ReadError) → length bytes ≤ 67108864 → IsAnswer bytes result (program_at bytes) → IfErr result (IsRefused bytes)
+pub answer_refused : (bytes : List ℕ) (result : Result Program ReadError) → length bytes ≤ 67108864 → IsReadAnswer bytes result (program_at bytes) → IfErr result (IsRefused bytes)
 answer_refused bytes (Ok program) few answer = tt
 answer_refused bytes (Err NoMemory) few answer = tt
 answer_refused bytes (Err TooLong) few answer = answer
@@ -37,7 +37,7 @@ no_program bytes fault program few breaks e =
     let same = same_outcome breaks.items all.passes.items whole bytes breaks.middle all.rest breaks.left _ (Some fault) None (omega (arith, few))
     breaks.row breaks.good breaks.ran breaks.fails all.passes.row all.passes.good all.passes.ran (refl, all.blank) in cc
 
-pub answer_all_refused : (bytes : List ℕ) (result : Result Program ReadError) (why : TextFault) (line value : ℕ) → length bytes ≤ 67108864 → IsAnswer bytes result (program_at bytes)
+pub answer_all_refused : (bytes : List ℕ) (result : Result Program ReadError) (why : TextFault) (line value : ℕ) → length bytes ≤ 67108864 → IsReadAnswer bytes result (program_at bytes)
     → Refuses bytes why line value → IsTextUnlessNoMemory result why line value
 answer_all_refused bytes (Ok program) why line value few answer refuses = no_program bytes refuses.fault program few refuses.breaks answer
 answer_all_refused bytes (Err NoMemory) why line value few answer refuses = tt

@@ -3,7 +3,7 @@ use Rattle.std.proofs.Common.{◌≡◌, ℕ, zero, suc, ◌+◌, ◌^◌, ◌<�
 use Rattle.std.specs.List.{AllByRecursion, flat_map}
 use Rattle.std.proofs.lemmas.List.{length-append}
 use Rattle.lparse_reader.specs.Fields.{Field, behind, counted_at, before_end, until_end_at}
-use Rattle.lparse_reader.specs.Pieces.{Item, number, entry, mark, StandsNumber, StandsMark, StandsEntry, Stands, Row}
+use Rattle.lparse_reader.specs.Pieces.{Item, number, entry, mark, StandsNumber, StandsMark, StandsEntry, Stands, PieceRow}
 use Rattle.lparse_reader.proofs.NumberPieces.{bind_ok, ok_is}
 
 -- ---- lengths
@@ -24,18 +24,18 @@ piece_shrinks (number value) bytes rest stands = number_shrinks value bytes rest
 piece_shrinks (entry atom name) bytes rest stands = omega (arith, entry_shrinks atom name bytes rest stands)
 piece_shrinks (mark sign) bytes rest stands = mark_shrinks sign bytes rest stands
 
-pub row_shrinks : (items : List Item) (bytes rest : List ℕ) → Row items bytes rest → length items + length rest ≤ length bytes
+pub row_shrinks : (items : List Item) (bytes rest : List ℕ) → PieceRow items bytes rest → length items + length rest ≤ length bytes
 row_shrinks [] bytes rest row = omega (arith, ap length row)
 row_shrinks (item ∷ items) bytes rest row =
     omega (arith, piece_shrinks item bytes row.0 row.1, row_shrinks items row.0 rest row.2)
 
 -- ---- rows behind rows
 
-pub row_join : (front back : List Item) (bytes middle rest : List ℕ) → Row front bytes middle → Row back middle rest → Row (front ++ back) bytes rest
-row_join [] back bytes middle rest first second = subst (λ (b : List ℕ). Row back b rest) (sym first) second
+pub row_join : (front back : List Item) (bytes middle rest : List ℕ) → PieceRow front bytes middle → PieceRow back middle rest → PieceRow (front ++ back) bytes rest
+row_join [] back bytes middle rest first second = subst (λ (b : List ℕ). PieceRow back b rest) (sym first) second
 row_join (item ∷ front) back bytes middle rest first second = (first.0, first.1, row_join front back first.0 middle rest first.2 second)
 
-pub row_split : (front back : List Item) (bytes rest : List ℕ) → Row (front ++ back) bytes rest → (middle : List ℕ) × Row front bytes middle × Row back middle rest
+pub row_split : (front back : List Item) (bytes rest : List ℕ) → PieceRow (front ++ back) bytes rest → (middle : List ℕ) × PieceRow front bytes middle × PieceRow back middle rest
 row_split [] back bytes rest row = (bytes, refl, row)
 row_split (item ∷ front) back bytes rest row =
     let more = row_split front back row.0 rest row.2 in
@@ -52,7 +52,7 @@ abbrev pub ReadAgain : {A : Type 0} → Field A → (A → Item) → (A → Type
 ReadAgain {A = A} field item P = (bytes : List ℕ) (x : A) (rest : List ℕ) → P x → Stands (item x) bytes rest → field bytes ≡ Ok (x, rest)
 
 pub record Counted {A : Type 0} (item : A → Item) (P : A → Type 0) (count : ℕ) (bytes : List ℕ) (xs : List A) (rest : List ℕ) : Type 0 where
-  pub row : Row (map item xs) bytes rest
+  pub row : PieceRow (map item xs) bytes rest
   pub each : AllByRecursion P xs
   pub count_is : length xs ≡ count
 
@@ -72,7 +72,7 @@ counted_stands {A = A} field item P reads (suc count) bytes xs rest e =
     (record { row = (first.0.1, here.0, more.row); each = (here.1, more.each); count_is = ap suc more.count_is })
 
 pub counted_again : {A : Type 0} (field : Field A) (item : A → Item) (P : A → Type 0) → ReadAgain field item P
-    → (xs : List A) (bytes rest : List ℕ) → AllByRecursion P xs → Row (map item xs) bytes rest → counted_at field (length xs) bytes ≡ Ok (xs, rest)
+    → (xs : List A) (bytes rest : List ℕ) → AllByRecursion P xs → PieceRow (map item xs) bytes rest → counted_at field (length xs) bytes ≡ Ok (xs, rest)
 unfolding counted_at
 counted_again field item P again [] bytes rest each row = ap (λ (r : List ℕ). Ok ([], r)) row
 counted_again field item P again (x ∷ xs) bytes rest each row =
@@ -84,16 +84,16 @@ counted_again field item P again (x ∷ xs) bytes rest each row =
 
 -- what a field reads stands there, if few bytes are left; its end is a 0
 pub record ReadsItems {A : Type 0} (field : Field (Option A)) (items : A → List Item) (P : A → Type 0) : Type 0 where
-  pub some : (bytes : List ℕ) (x : A) (rest : List ℕ) → length bytes < 2 ^ 31 → field bytes ≡ Ok (Some x, rest) → Row (items x) bytes rest × P x
+  pub some : (bytes : List ℕ) (x : A) (rest : List ℕ) → length bytes < 2 ^ 31 → field bytes ≡ Ok (Some x, rest) → PieceRow (items x) bytes rest × P x
   pub none : (bytes rest : List ℕ) → field bytes ≡ Ok (None, rest) → StandsNumber 0 bytes rest
 
 pub record ReadsAgain {A : Type 0} (field : Field (Option A)) (items : A → List Item) (P : A → Type 0) : Type 0 where
-  pub some : (bytes : List ℕ) (x : A) (rest : List ℕ) → P x → Row (items x) bytes rest → field bytes ≡ Ok (Some x, rest)
+  pub some : (bytes : List ℕ) (x : A) (rest : List ℕ) → P x → PieceRow (items x) bytes rest → field bytes ≡ Ok (Some x, rest)
   pub none : (bytes rest : List ℕ) → StandsNumber 0 bytes rest → field bytes ≡ Ok (None, rest)
   pub takes : (x : A) → 1 ≤ length (items x)
 
 pub record UpToEnd {A : Type 0} (items : A → List Item) (P : A → Type 0) (bytes : List ℕ) (xs : List A) (rest : List ℕ) : Type 0 where
-  pub row : Row (flat_map items xs ++ number 0 ∷ []) bytes rest
+  pub row : PieceRow (flat_map items xs ++ number 0 ∷ []) bytes rest
   pub each : AllByRecursion P xs
 
 until_step : {A : Type 0} (field : Field (Option A)) (items : A → List Item) (P : A → Type 0) (reads : ReadsItems field items P)
@@ -113,7 +113,7 @@ until_step {A = A} field items P reads most bytes (Some x) after xs rest few rea
     let behind_it = more others.0.0 others.0.1 shorter others.1 in
     let joined = row_join (items x) (flat_map items others.0.0 ++ number 0 ∷ []) bytes after others.0.1 here.0 behind_it.row in
     subst (λ (p : List A × List ℕ). UpToEnd items P bytes p.0 p.1) same
-    (record { row = subst (λ (is : List Item). Row is bytes others.0.1) (sym (append_assoc (items x) (flat_map items others.0.0) (number 0 ∷ []))) joined; each = (here.1, behind_it.each) })
+    (record { row = subst (λ (is : List Item). PieceRow is bytes others.0.1) (sym (append_assoc (items x) (flat_map items others.0.0) (number 0 ∷ []))) joined; each = (here.1, behind_it.each) })
 
 pub until_stands : {A : Type 0} (field : Field (Option A)) (items : A → List Item) (P : A → Type 0) (reads : ReadsItems field items P)
     → (most : ℕ) (bytes : List ℕ) (xs : List A) (rest : List ℕ) → length bytes < 2 ^ 31 → until_end_at field most bytes ≡ Ok (xs, rest) → UpToEnd items P bytes xs rest
@@ -125,21 +125,21 @@ until_stands field items P reads (suc most) bytes xs rest few e =
     (λ ys tail shorter read. until_stands field items P reads most first.0.1 ys tail shorter read)
 
 pub until_again : {A : Type 0} (field : Field (Option A)) (items : A → List Item) (P : A → Type 0) (again : ReadsAgain field items P)
-    → (xs : List A) (most : ℕ) (bytes rest : List ℕ) → length bytes ≤ most → AllByRecursion P xs → Row (flat_map items xs ++ number 0 ∷ []) bytes rest
+    → (xs : List A) (most : ℕ) (bytes rest : List ℕ) → length bytes ≤ most → AllByRecursion P xs → PieceRow (flat_map items xs ++ number 0 ∷ []) bytes rest
     → until_end_at field most bytes ≡ Ok (xs, rest)
 unfolding until_end_at
 until_again field items P again [] zero bytes rest room each row = absurd (omega (arith, number_shrinks 0 bytes row.0 row.1))
 until_again field items P again [] (suc most) bytes rest room each row =
     rw (again.none bytes row.0 row.1) (ap (λ (r : List ℕ). Ok ([], r)) row.2)
 until_again field items P again (x ∷ xs) most bytes rest room each row =
-    let regrouped = subst (λ (is : List Item). Row is bytes rest) (append_assoc (items x) (flat_map items xs) (number 0 ∷ [])) row in
+    let regrouped = subst (λ (is : List Item). PieceRow is bytes rest) (append_assoc (items x) (flat_map items xs) (number 0 ∷ [])) row in
     let parts = row_split (items x) (flat_map items xs ++ number 0 ∷ []) bytes rest regrouped in
     until_again_one field items P again x xs most bytes parts.0 rest room each parts.1 parts.2
     (λ fewer enough. until_again field items P again xs fewer parts.0 rest enough each.1 parts.2)
   where
     until_again_one : {A : Type 0} (field : Field (Option A)) (items : A → List Item) (P : A → Type 0) (again : ReadsAgain field items P)
-        (x : A) (xs : List A) (most : ℕ) (bytes middle rest : List ℕ) → length bytes ≤ most → AllByRecursion P (x ∷ xs) → Row (items x) bytes middle
-        → Row (flat_map items xs ++ number 0 ∷ []) middle rest → ((fewer : ℕ) → length middle ≤ fewer → until_end_at field fewer middle ≡ Ok (xs, rest))
+        (x : A) (xs : List A) (most : ℕ) (bytes middle rest : List ℕ) → length bytes ≤ most → AllByRecursion P (x ∷ xs) → PieceRow (items x) bytes middle
+        → PieceRow (flat_map items xs ++ number 0 ∷ []) middle rest → ((fewer : ℕ) → length middle ≤ fewer → until_end_at field fewer middle ≡ Ok (xs, rest))
         → until_end_at field most bytes ≡ Ok (x ∷ xs, rest)
     until_again_one field items P again x xs zero bytes middle rest room each first second more =
         absurd (omega (arith, row_shrinks (items x) bytes middle first, again.takes x, room))

@@ -15,7 +15,7 @@ use Rattle.lparse_reader.specs.declared.rule_text.Counts.{Counts}
 use Rattle.lparse_reader.specs.Tokens.{skipped}
 use Rattle.lparse_reader.specs.Fields.{◌>>=◌, number_at}
 use Rattle.lparse_reader.specs.Reading.{kind_of, kind_or_end_at, body_at, basic_at, constraint_at, weight_at, many_heads_at, rule_at, rule_of_kind, rule_or_end_at}
-use Rattle.lparse_reader.specs.Pieces.{Item, number, StandsNumber, Row, body_atoms, body_weights, negatives, numbers, kind_number, numbers_of_kind, rule_items}
+use Rattle.lparse_reader.specs.Pieces.{Item, number, StandsNumber, PieceRow, body_atoms, body_weights, negatives, numbers, kind_number, numbers_of_kind, rule_items}
 use Rattle.lparse_reader.proofs.NumberPieces.{bind_ok, ok_is, number_stands, number_again}
 use Rattle.lparse_reader.proofs.RowPieces.{row_split, ReadsItems, ReadsAgain}
 use Rattle.lparse_reader.proofs.FieldPieces.{atom_again}
@@ -26,7 +26,7 @@ abbrev made : Kind → List ℕ → ℕ → List Weighted → Rule
 made kind heads bound body = record { kind = kind; heads = heads; bound = bound; body = body }
 
 basic_again : (heads : List ℕ) (bound : ℕ) (body : List Weighted) (bytes rest : List ℕ) → IsReadRule (made Basic heads bound body)
-    → Row (numbers (numbers_of_kind Basic heads bound body)) bytes rest → basic_at bytes ≡ Ok (made Basic heads bound body, rest)
+    → PieceRow (numbers (numbers_of_kind Basic heads bound body)) bytes rest → basic_at bytes ≡ Ok (made Basic heads bound body, rest)
 unfolding basic_at
 basic_again [] bound body bytes rest good row = absurd (omega (arith, good.is_rule.heads))
 basic_again (head ∷ []) bound body bytes rest good row =
@@ -38,7 +38,7 @@ basic_again (head ∷ []) bound body bytes rest good row =
 basic_again (head ∷ second ∷ heads) bound body bytes rest good row = absurd (omega (arith, good.is_rule.heads))
 
 constraint_again : (heads : List ℕ) (bound : ℕ) (body : List Weighted) (bytes rest : List ℕ) → IsReadRule (made Constraint heads bound body)
-    → Row (numbers (numbers_of_kind Constraint heads bound body)) bytes rest → constraint_at bytes ≡ Ok (made Constraint heads bound body, rest)
+    → PieceRow (numbers (numbers_of_kind Constraint heads bound body)) bytes rest → constraint_at bytes ≡ Ok (made Constraint heads bound body, rest)
 unfolding constraint_at
 constraint_again [] bound body bytes rest good row = absurd (omega (arith, good.is_rule.heads))
 constraint_again (head ∷ []) bound body bytes rest good row =
@@ -52,25 +52,25 @@ constraint_again (head ∷ second ∷ heads) bound body bytes rest good row = ab
 
 many_again : (kind : Kind) (heads : List ℕ) (bound : ℕ) (body : List Weighted) (bytes rest : List ℕ) → IsReadRule (made kind heads bound body)
     → bound ≡ length body → AreOnes body
-    → Row (numbers (length heads ∷ (heads ++ (length body ∷ negatives body ∷ body_atoms body)))) bytes rest → many_heads_at kind bytes ≡ Ok (made kind heads bound body, rest)
+    → PieceRow (numbers (length heads ∷ (heads ++ (length body ∷ negatives body ∷ body_atoms body)))) bytes rest → many_heads_at kind bytes ≡ Ok (made kind heads bound body, rest)
 unfolding many_heads_at
 many_again kind heads bound body bytes rest good bound_is ones row =
     let tail = length body ∷ negatives body ∷ body_atoms body in
-    let parts = row_split (numbers heads) (numbers tail) row.0 rest (subst (λ (is : List Item). Row is row.0 rest) (map-append number heads tail) row.2) in
+    let parts = row_split (numbers heads) (numbers tail) row.0 rest (subst (λ (is : List Item). PieceRow is row.0 rest) (map-append number heads tail) row.2) in
     let first = heads_again bytes heads parts.0 (record { middle = row.0; count = row.1; row = parts.1; each = good.heads }) in
     let second = counts_again parts.0 parts.2.0 parts.2.2.0 (length body) (negatives body) (negatives_few body) parts.2.1 parts.2.2.1 in
     let third = body_again body parts.2.2.0 rest (ordered_from_first body good.is_rule.order) ones good.atoms parts.2.2.2 in
     rw (first, second, third) (ap (λ (n : ℕ). Ok (made kind heads n body, rest)) (sym bound_is))
 
 weight_again : (heads : List ℕ) (bound : ℕ) (body : List Weighted) (bytes rest : List ℕ) → IsReadRule (made Weight heads bound body)
-    → Row (numbers (numbers_of_kind Weight heads bound body)) bytes rest → weight_at bytes ≡ Ok (made Weight heads bound body, rest)
+    → PieceRow (numbers (numbers_of_kind Weight heads bound body)) bytes rest → weight_at bytes ≡ Ok (made Weight heads bound body, rest)
 unfolding weight_at
 weight_again [] bound body bytes rest good row = absurd (omega (arith, good.is_rule.heads))
 weight_again (head ∷ []) bound body bytes rest good row =
     let body_begins = row.2.2.2.0 in
-    let items = subst (λ (is : List Item). Row is body_begins rest) (map-append number (body_atoms body) (body_weights body)) row.2.2.2.2 in
+    let items = subst (λ (is : List Item). PieceRow is body_begins rest) (map-append number (body_atoms body) (body_weights body)) row.2.2.2.2 in
     let parts = row_split (numbers (body_atoms body)) (numbers (body_weights body)) body_begins rest items in
-    let atoms : Row (numbers (body_atoms (plain body))) body_begins parts.0 = subst (λ (ns : List ℕ). Row (numbers ns) body_begins parts.0) (sym (plain_atoms body)) parts.1 in
+    let atoms : PieceRow (numbers (body_atoms (plain body))) body_begins parts.0 = subst (λ (ns : List ℕ). PieceRow (numbers ns) body_begins parts.0) (sym (plain_atoms body)) parts.1 in
     let plain_read = body_again (plain body) body_begins parts.0 (plain_ordered body (ordered_from_first body good.is_rule.order)) (plain_ones body) (plain_are_atoms body good.atoms) atoms in
     let counts_is : counts_of (length (plain body)) (negatives (plain body)) ≡ counts_of (length body) (negatives body) =
     ap (λ (n : ℕ). counts_of n (negatives (plain body))) (plain_length body) ∙ ap (λ (n : ℕ). counts_of (length body) n) (plain_negatives body) in
@@ -84,7 +84,7 @@ weight_again (head ∷ []) bound body bytes rest good row =
 weight_again (head ∷ second ∷ heads) bound body bytes rest good row = absurd (omega (arith, good.is_rule.heads))
 
 pub rule_again_of : (kind : Kind) (heads : List ℕ) (bound : ℕ) (body : List Weighted) (bytes rest : List ℕ) → IsReadRule (made kind heads bound body)
-    → Row (numbers (numbers_of_kind kind heads bound body)) bytes rest → rule_at kind bytes ≡ Ok (made kind heads bound body, rest)
+    → PieceRow (numbers (numbers_of_kind kind heads bound body)) bytes rest → rule_at kind bytes ≡ Ok (made kind heads bound body, rest)
 rule_again_of Basic heads bound body bytes rest good row = basic_again heads bound body bytes rest good row
 rule_again_of Constraint heads bound body bytes rest good row = constraint_again heads bound body bytes rest good row
 rule_again_of Choice heads bound body bytes rest good row =
@@ -148,7 +148,7 @@ pair_is : (a b : Rule) (x y : List ℕ) → a ≡ b → x ≡ y → pair a x ≡
 pair_is a b x y first second = ap (λ (r : Rule). pair r x) first ∙ ap (λ (l : List ℕ). pair b l) second
 
 rule_of_stands : (bytes middle : List ℕ) (kind : Option Kind) (rule : Rule) (rest : List ℕ) → StandsNumber (kind_or_zero kind) bytes middle → rule_of_kind kind middle ≡ Ok (Some rule, rest)
-    → Row (rule_items rule) bytes rest × IsReadRule rule
+    → PieceRow (rule_items rule) bytes rest × IsReadRule rule
 rule_of_stands bytes middle None rule rest stands e =
     let same = ok_is (None, middle) (Some rule, rest) e in
     absurd (let wrong = ap (λ (p : Option Rule × List ℕ). p.0) same in cc)
@@ -158,9 +158,9 @@ rule_of_stands bytes middle (Some kind) rule rest stands e =
     let rule_is : read.0.0 ≡ rule = some_is read.0.0 rule (ap (λ (p : Option Rule × List ℕ). p.0) same) in
     let rest_is : read.0.1 ≡ rest = ap (λ (p : Option Rule × List ℕ). p.1) same in
     let found = rule_stands kind middle read.0.0 read.0.1 read.1 in
-    let row : Row (rule_items read.0.0) bytes read.0.1 =
-    subst (λ (k : Kind). Row (numbers (kind_number k ∷ numbers_of_kind k read.0.0.heads read.0.0.bound read.0.0.body)) bytes read.0.1) (sym found.kind_is) (middle, stands, found.row) in
-    subst (λ (p : Rule × List ℕ). Row (rule_items p.0) bytes p.1 × IsReadRule p.0) (pair_is read.0.0 rule read.0.1 rest rule_is rest_is) (row, found.good)
+    let row : PieceRow (rule_items read.0.0) bytes read.0.1 =
+    subst (λ (k : Kind). PieceRow (numbers (kind_number k ∷ numbers_of_kind k read.0.0.heads read.0.0.bound read.0.0.body)) bytes read.0.1) (sym found.kind_is) (middle, stands, found.row) in
+    subst (λ (p : Rule × List ℕ). PieceRow (rule_items p.0) bytes p.1 × IsReadRule p.0) (pair_is read.0.0 rule read.0.1 rest rule_is rest_is) (row, found.good)
 
 rule_of_ends : (bytes middle : List ℕ) (kind : Option Kind) (rest : List ℕ) → StandsNumber (kind_or_zero kind) bytes middle → rule_of_kind kind middle ≡ Ok (None, rest) → StandsNumber 0 bytes rest
 rule_of_ends bytes middle None rest stands e =

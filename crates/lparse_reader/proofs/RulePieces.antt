@@ -13,7 +13,7 @@ use Rattle.lparse_reader.specs.declared.fault.Fault.{Fault}
 use Rattle.lparse_reader.specs.declared.rule_text.Counts.{Counts}
 use Rattle.lparse_reader.specs.Fields.{◌>>=◌, number_at, atom_at, weighed_at}
 use Rattle.lparse_reader.specs.Reading.{counts_at, body_at, heads_at, basic_at, constraint_at, weight_at, many_heads_at, rule_at}
-use Rattle.lparse_reader.specs.Pieces.{Item, number, StandsNumber, Row, body_atoms, body_weights, negatives, numbers, numbers_of_kind}
+use Rattle.lparse_reader.specs.Pieces.{Item, number, StandsNumber, PieceRow, body_atoms, body_weights, negatives, numbers, numbers_of_kind}
 use Rattle.lparse_reader.proofs.NumberPieces.{bind_ok, ok_is, number_stands}
 use Rattle.lparse_reader.proofs.RowPieces.{row_join}
 use Rattle.lparse_reader.proofs.FieldPieces.{IsAtom, atom_stands}
@@ -28,7 +28,7 @@ pub record IsReadRule (rule : Rule) : Type 0 where
 -- a rule that was read with this kind
 pub record RuleStands (kind : Kind) (bytes : List ℕ) (rule : Rule) (rest : List ℕ) : Type 0 where
   pub kind_is : rule.kind ≡ kind
-  pub row : Row (numbers (numbers_of_kind kind rule.heads rule.bound rule.body)) bytes rest
+  pub row : PieceRow (numbers (numbers_of_kind kind rule.heads rule.bound rule.body)) bytes rest
   pub good : IsReadRule rule
 
 abbrev made : Kind → List ℕ → ℕ → List Weighted → Rule
@@ -36,7 +36,7 @@ made kind heads bound body = record { kind = kind; heads = heads; bound = bound;
 
 -- the numbers of literals and negatives, and then the atoms of the body
 pub record CountsAndBody (bytes : List ℕ) (body : List Weighted) (rest : List ℕ) : Type 0 where
-  pub row : Row (numbers (length body ∷ negatives body ∷ body_atoms body)) bytes rest
+  pub row : PieceRow (numbers (length body ∷ negatives body ∷ body_atoms body)) bytes rest
   pub few : IsNumber (length body)
 
 literals_are : (counts : Counts) (bytes middle : List ℕ) (body : List Weighted) (rest : List ℕ) → ReadCounts counts bytes middle → ReadBody counts middle body rest → length body ≡ counts.literals
@@ -161,7 +161,7 @@ many_rest kind heads counts = body_at counts.0 counts.1 >>= many_end kind heads 
 -- what holds of both kinds
 pub record ManyHeads (kind : Kind) (bytes : List ℕ) (rule : Rule) (rest : List ℕ) : Type 0 where
   pub kind_is : rule.kind ≡ kind
-  pub row : Row (numbers (length rule.heads ∷ (rule.heads ++ (length rule.body ∷ negatives rule.body ∷ body_atoms rule.body)))) bytes rest
+  pub row : PieceRow (numbers (length rule.heads ∷ (rule.heads ++ (length rule.body ∷ negatives rule.body ∷ body_atoms rule.body)))) bytes rest
   pub heads : AllByRecursion IsAtom rule.heads
   pub atoms : AreAtoms rule.body
   pub bound : rule.bound ≡ length rule.body
@@ -186,7 +186,7 @@ many_heads_stand kind bytes rule rest e =
     subst (λ (p : Rule × List ℕ). ManyHeads kind bytes p.0 p.1) (ok_is (made kind heads.0.0 counts.0.0.literals body.0.0, body.0.1) (rule, rest) body.2)
     (record {
       kind_is = refl;
-      row = (heads_read.middle, heads_read.count, subst (λ (is : List Item). Row is heads_read.middle body.0.1) (sym (map-append number heads.0.0 tail)) joined);
+      row = (heads_read.middle, heads_read.count, subst (λ (is : List Item). PieceRow is heads_read.middle body.0.1) (sym (map-append number heads.0.0 tail)) joined);
       heads = heads_read.each;
       atoms = body_read.atoms;
       bound = sym len;
@@ -266,8 +266,8 @@ weight_stands bytes rule rest e =
     let both = counts_and_body counts.0.0 bound.0.1 counts.0.1 body.0.0 body.0.1 counts_read body_read in
     let whole = weighed.0.0 in
     let as_plain = subst (λ (ps : List Weighted). CountsAndBody bound.0.1 ps body.0.1) (sym weights.parts_are) both in
-    let plain_row : Row (numbers (length whole ∷ negatives whole ∷ body_atoms whole)) bound.0.1 body.0.1 =
-    subst (λ (ns : List ℕ). Row (numbers ns) bound.0.1 body.0.1)
+    let plain_row : PieceRow (numbers (length whole ∷ negatives whole ∷ body_atoms whole)) bound.0.1 body.0.1 =
+    subst (λ (ns : List ℕ). PieceRow (numbers ns) bound.0.1 body.0.1)
     (ap (λ (n : ℕ). n ∷ negatives (plain whole) ∷ body_atoms (plain whole)) (plain_length whole)
     ∙ ap (λ (n : ℕ). length whole ∷ n ∷ body_atoms (plain whole)) (plain_negatives whole)
     ∙ ap (λ (ns : List ℕ). length whole ∷ negatives whole ∷ ns) (plain_atoms whole)) as_plain.row in
@@ -281,7 +281,7 @@ weight_stands bytes rule rest e =
         (
           bound.0.1,
           bound_stands,
-          subst (λ (is : List Item). Row is bound.0.1 weighed.0.1) (sym (map-append number (length whole ∷ negatives whole ∷ body_atoms whole) (body_weights whole))) joined,
+          subst (λ (is : List Item). PieceRow is bound.0.1 weighed.0.1) (sym (map-append number (length whole ∷ negatives whole ∷ body_atoms whole) (body_weights whole))) joined,
         ),
       );
       good = record {

@@ -12,7 +12,7 @@ use Rattle.ground_program.specs.declared.program.Rule.{Rule}
 use Rattle.ground_program.specs.declared.program.Named.{Named}
 use Rattle.ground_program.specs.declared.program.Program.{Program}
 use Rattle.ground_program.specs.Program.{IsNumber, IsRule, IsProgram, WeightFits, atoms_of_rule, atoms_of}
-use Rattle.lparse_reader.specs.Pieces.{Item, number, mark, Row, Reads, kind_number, numbers_of_kind, body_atoms, body_weights, negatives, numbers, rule_items, entry_item, program_items}
+use Rattle.lparse_reader.specs.Pieces.{Item, number, mark, PieceRow, Reads, kind_number, numbers_of_kind, body_atoms, body_weights, negatives, numbers, rule_items, entry_item, program_items}
 use Rattle.lparse_reader.specs.Text.{number_line, entry_line, rule_line, ended_lines, marked_atoms, text}
 use Rattle.lparse_reader.specs.Reading.{program_at}
 use Rattle.lparse_reader.proofs.NumberPieces.{ok_is}
@@ -139,20 +139,20 @@ names_spell program valid =
     subst (λ items. Spells (ended_lines entry_line program.names) (items ++ number 0 ∷ [])) (flat_map_single entry_item program.names) lines
 
 -- the items of a program, part by part
-parts_of : Program → List Item
-parts_of program =
+read_parts : Program → List Item
+read_parts program =
     (flat_map rule_items program.rules ++ number 0 ∷ [])
     ++ (map entry_item program.names ++ number 0 ∷ [])
     ++ (mark 43 ∷ (numbers program.must ++ number 0 ∷ []))
     ++ (mark 45 ∷ (numbers program.must_not ++ number 0 ∷ []))
     ++ number program.models ∷ []
 
-parts_are : (program : Program) → parts_of program ≡ program_items program
-unfolding parts_of
+parts_are : (program : Program) → read_parts program ≡ program_items program
+unfolding read_parts
 parts_are program = simp append_assoc
 
-text_spells : (program : Program) → IsProgram program → Spells (text program) (parts_of program)
-unfolding parts_of
+text_spells : (program : Program) → IsProgram program → Spells (text program) (read_parts program)
+unfolding read_parts
 text_spells program valid =
     let small = are_numbers program valid in
     spells_then _ _ _ _
@@ -167,11 +167,11 @@ text_spells program valid =
 pub text_reads : (program : Program) → IsProgram program → Reads (text program) program
 text_reads program valid =
     let row = text_spells program valid [] [] [] (10 ∷ []) tt refl in
-    let whole = subst (λ items. Row items (text program ++ []) (10 ∷ [])) (append-nil (parts_of program) ∙ parts_are program) row in
+    let whole = subst (λ items. PieceRow items (text program ++ []) (10 ∷ [])) (append-nil (read_parts program) ∙ parts_are program) row in
     record {
       valid = valid;
       rest = 10 ∷ [];
-      row = subst (λ bytes. Row (program_items program) bytes (10 ∷ [])) (append-nil (text program)) whole;
+      row = subst (λ bytes. PieceRow (program_items program) bytes (10 ∷ [])) (append-nil (text program)) whole;
       blank = (refl, tt);
     }
 

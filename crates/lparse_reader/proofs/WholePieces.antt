@@ -12,7 +12,7 @@ use Rattle.ground_program.specs.Program.{IsNumber, IsRule, IsName, IsProgram, at
 use Rattle.lparse_reader.specs.declared.fault.Fault.{Fault}
 use Rattle.lparse_reader.specs.Fields.{◌>>=◌, atom_or_end_at, entry_or_end_at, mark_at, models_at, end_at}
 use Rattle.lparse_reader.specs.Reading.{rule_or_end_at, all_at, made, program_at}
-use Rattle.lparse_reader.specs.Pieces.{Item, number, mark, IsGap, Row, numbers, rule_items, entry_item, Reads}
+use Rattle.lparse_reader.specs.Pieces.{Item, number, mark, IsGap, PieceRow, numbers, rule_items, entry_item, Reads}
 use Rattle.lparse_reader.proofs.NumberPieces.{bind_ok, ok_is}
 use Rattle.lparse_reader.proofs.RowPieces.{row_shrinks, row_join, row_split, mark_shrinks, UpToEnd, until_stands, until_again}
 use Rattle.lparse_reader.proofs.FieldPieces.{IsAtom, atom_items, atoms_read, atoms_again, mark_stands, mark_again, models_stands, models_again, end_stands, end_again}
@@ -28,13 +28,13 @@ single item [] = refl
 single item (x ∷ xs) = ap (λ (items : List Item). item x ∷ items) (single item xs)
 
 -- items up to a 0, and more behind them
-end_join : (front more : List Item) (bytes middle rest : List ℕ) → Row (front ++ number 0 ∷ []) bytes middle → Row more middle rest → Row (front ++ (number 0 ∷ more)) bytes rest
+end_join : (front more : List Item) (bytes middle rest : List ℕ) → PieceRow (front ++ number 0 ∷ []) bytes middle → PieceRow more middle rest → PieceRow (front ++ (number 0 ∷ more)) bytes rest
 end_join front more bytes middle rest first second =
-    subst (λ (is : List Item). Row is bytes rest) (append_assoc front (number 0 ∷ []) more) (row_join (front ++ number 0 ∷ []) more bytes middle rest first second)
+    subst (λ (is : List Item). PieceRow is bytes rest) (append_assoc front (number 0 ∷ []) more) (row_join (front ++ number 0 ∷ []) more bytes middle rest first second)
 
-end_split : (front more : List Item) (bytes rest : List ℕ) → Row (front ++ (number 0 ∷ more)) bytes rest → (middle : List ℕ) × Row (front ++ number 0 ∷ []) bytes middle × Row more middle rest
+end_split : (front more : List Item) (bytes rest : List ℕ) → PieceRow (front ++ (number 0 ∷ more)) bytes rest → (middle : List ℕ) × PieceRow (front ++ number 0 ∷ []) bytes middle × PieceRow more middle rest
 end_split front more bytes rest row =
-    row_split (front ++ number 0 ∷ []) more bytes rest (subst (λ (is : List Item). Row is bytes rest) (sym (append_assoc front (number 0 ∷ []) more)) row)
+    row_split (front ++ number 0 ∷ []) more bytes rest (subst (λ (is : List Item). PieceRow is bytes rest) (sym (append_assoc front (number 0 ∷ []) more)) row)
 
 -- ---- what holds of each atom, rule and name
 
@@ -139,11 +139,11 @@ after_rules rules = all_at entry_or_end_at rules.1 >>= after_names rules.0
 
 -- ---- a program is read where its pieces stand
 
-atoms_row : (atoms bytes rest : List ℕ) → UpToEnd atom_items IsAtom bytes atoms rest → Row (numbers atoms ++ number 0 ∷ []) bytes rest
-atoms_row atoms bytes rest read = subst (λ (is : List Item). Row (is ++ number 0 ∷ []) bytes rest) (single number atoms) read.row
+atoms_row : (atoms bytes rest : List ℕ) → UpToEnd atom_items IsAtom bytes atoms rest → PieceRow (numbers atoms ++ number 0 ∷ []) bytes rest
+atoms_row atoms bytes rest read = subst (λ (is : List Item). PieceRow (is ++ number 0 ∷ []) bytes rest) (single number atoms) read.row
 
-names_row : (names : List Named) (bytes rest : List ℕ) → UpToEnd entry_items IsEntry bytes names rest → Row (map entry_item names ++ number 0 ∷ []) bytes rest
-names_row names bytes rest read = subst (λ (is : List Item). Row (is ++ number 0 ∷ []) bytes rest) (single entry_item names) read.row
+names_row : (names : List Named) (bytes rest : List ℕ) → UpToEnd entry_items IsEntry bytes names rest → PieceRow (map entry_item names ++ number 0 ∷ []) bytes rest
+names_row names bytes rest read = subst (λ (is : List Item). PieceRow (is ++ number 0 ∷ []) bytes rest) (single entry_item names) read.row
 
 pub reads_program : (bytes : List ℕ) (program : Program) → length bytes ≤ 67108864 → program_at bytes ≡ Ok program → Reads bytes program
 unfolding program_at
@@ -169,13 +169,13 @@ reads_program bytes program few e =
     let must_not_stand = until_stands atom_or_end_at atom_items IsAtom atoms_read (length minus.0) minus.0 must_not.0.0 must_not.0.1 (omega (arith, few, after_minus_shorter)) must_not.1 in
     let models_stand = models_stands must_not.0.1 models.0.0 models.0.1 models.1 in
     let blank = end_stands models.0.1 ended.0 ended.1 in
-    let last : Row (must_not_items must_not.0.0 models.0.0) minus.0 models.0.1 =
+    let last : PieceRow (must_not_items must_not.0.0 models.0.0) minus.0 models.0.1 =
     end_join (numbers must_not.0.0) (models_items models.0.0) minus.0 must_not.0.1 models.0.1 (atoms_row must_not.0.0 minus.0 must_not.0.1 must_not_stand) (models.0.1, models_stand, refl) in
-    let third : Row (must_items must.0.0 must_not.0.0 models.0.0) plus.0 models.0.1 =
+    let third : PieceRow (must_items must.0.0 must_not.0.0 models.0.0) plus.0 models.0.1 =
     end_join (numbers must.0.0) (mark 45 ∷ must_not_items must_not.0.0 models.0.0) plus.0 must.0.1 models.0.1 (atoms_row must.0.0 plus.0 must.0.1 must_stand) (minus.0, minus_stands, last) in
-    let second : Row (names_items names.0.0 must.0.0 must_not.0.0 models.0.0) rules.0.1 models.0.1 =
+    let second : PieceRow (names_items names.0.0 must.0.0 must_not.0.0 models.0.0) rules.0.1 models.0.1 =
     end_join (map entry_item names.0.0) (mark 43 ∷ must_items must.0.0 must_not.0.0 models.0.0) rules.0.1 names.0.1 models.0.1 (names_row names.0.0 rules.0.1 names.0.1 names_stand) (plus.0, plus_stands, third) in
-    let row : Row (all_items rules.0.0 names.0.0 must.0.0 must_not.0.0 models.0.0) bytes models.0.1 =
+    let row : PieceRow (all_items rules.0.0 names.0.0 must.0.0 must_not.0.0 models.0.0) bytes models.0.1 =
     end_join (flat_map rule_items rules.0.0) (names_items names.0.0 must.0.0 must_not.0.0 models.0.0) bytes rules.0.1 models.0.1 rules_stand.row second in
     let short = all_few rules.0.0 names.0.0 must.0.0 must_not.0.0 models.0.0 (length bytes)
     (omega (arith, row_shrinks (all_items rules.0.0 names.0.0 must.0.0 must_not.0.0 models.0.0) bytes models.0.1 row)) in
@@ -268,13 +268,13 @@ program_again bytes program reads =
     let must_not = end_split (numbers program.must_not) (models_items program.models) after_minus_begins reads.rest must.2.2 in
     let rules_read_again = until_again rule_or_end_at rule_items IsReadRule rules_again program.rules (length bytes) bytes rules.0 (omega arith) good_rules rules.1 in
     let names_read_again = until_again entry_or_end_at entry_items IsEntry entries_again program.names (length rules.0) rules.0 names.0 (omega arith) good_names
-    (subst (λ (is : List Item). Row (is ++ number 0 ∷ []) rules.0 names.0) (sym (single entry_item program.names)) names.1) in
+    (subst (λ (is : List Item). PieceRow (is ++ number 0 ∷ []) rules.0 names.0) (sym (single entry_item program.names)) names.1) in
     let plus_again = mark_again 43 1 names.0 after_plus_begins refl names.2.1 in
     let must_read_again = until_again atom_or_end_at atom_items IsAtom atoms_again program.must (length after_plus_begins) after_plus_begins must.0 (omega arith) (atoms_again_of program.must must_atoms)
-    (subst (λ (is : List Item). Row (is ++ number 0 ∷ []) after_plus_begins must.0) (sym (single number program.must)) must.1) in
+    (subst (λ (is : List Item). PieceRow (is ++ number 0 ∷ []) after_plus_begins must.0) (sym (single number program.must)) must.1) in
     let minus_again = mark_again 45 2 must.0 after_minus_begins refl must.2.1 in
     let must_not_read_again = until_again atom_or_end_at atom_items IsAtom atoms_again program.must_not (length after_minus_begins) after_minus_begins must_not.0 (omega arith) (atoms_again_of program.must_not must_not_atoms)
-    (subst (λ (is : List Item). Row (is ++ number 0 ∷ []) after_minus_begins must_not.0) (sym (single number program.must_not)) must_not.1) in
+    (subst (λ (is : List Item). PieceRow (is ++ number 0 ∷ []) after_minus_begins must_not.0) (sym (single number program.must_not)) must_not.1) in
     let models_read_again = models_again must_not.0 program.models must_not.2.0 must_not.2.1 in
     let end_read_again = end_again must_not.2.0 (subst IsGap (sym must_not.2.2) reads.blank) in
     rw (rules_read_again, names_read_again, plus_again, must_read_again, minus_again, must_not_read_again, models_read_again, end_read_again)

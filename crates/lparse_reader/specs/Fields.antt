@@ -22,9 +22,9 @@ Fails stops.NoMemory reading = Unit {0}
 Fails (stops.Fault fault) reading = reading ≡ Err fault
 
 -- a function gave what a reading gives, or stopped for want of memory
-abbrev pub Gives : {A B : Type 0} → (A → B) → Result A Stop → Result B Fault → Type 0
-Gives view (Ok x) reading = reading ≡ Ok (view x)
-Gives view (Err stop) reading = Fails stop reading
+abbrev pub ReadsAs : {A B : Type 0} → (A → B) → Result A Stop → Result B Fault → Type 0
+ReadsAs view (Ok x) reading = reading ≡ Ok (view x)
+ReadsAs view (Err stop) reading = Fails stop reading
 
 -- a field: what stands in some bytes, and the bytes after it
 abbrev pub Field : Type 0 → Type 0

@@ -72,9 +72,9 @@ Stands (entry atom name) bytes rest = StandsEntry atom name bytes rest
 Stands (mark sign) bytes rest = StandsMark sign bytes rest
 
 -- the pieces of these items stand one after the other
-abbrev pub Row : List Item → List ℕ → List ℕ → Type 0
-Row [] bytes rest = bytes ≡ rest
-Row (item ∷ items) bytes rest = (middle : List ℕ) × Stands item bytes middle × Row items middle rest
+abbrev pub PieceRow : List Item → List ℕ → List ℕ → Type 0
+PieceRow [] bytes rest = bytes ≡ rest
+PieceRow (item ∷ items) bytes rest = (middle : List ℕ) × Stands item bytes middle × PieceRow items middle rest
 
 -- the atoms of a body, its weights, and how many of its literals are negative
 abbrev pub body_atoms : List Weighted → List ℕ
@@ -131,5 +131,5 @@ program_items program =
 pub record Reads (bytes : List ℕ) (program : Program) : Type 0 where
   pub valid : IsProgram program
   pub rest : List ℕ
-  pub row : Row (program_items program) bytes rest
+  pub row : PieceRow (program_items program) bytes rest
   pub blank : IsGap rest

@@ -30,9 +30,9 @@ IsProgramUnlessNoMemory (Err ReadFault) program = ⊥
 IsProgramUnlessNoMemory (Err (Text why line value)) program = ⊥
 
 -- this result is what a reading of the text gives
-abbrev pub IsAnswer : {A : Type 0} → List ℕ → Result A ReadError → Result A Fault → Type 0
-IsAnswer text (Ok value) reading = reading ≡ Ok value
-IsAnswer text (Err error) reading = IsRefusal text error reading
+abbrev pub IsReadAnswer : {A : Type 0} → List ℕ → Result A ReadError → Result A Fault → Type 0
+IsReadAnswer text (Ok value) reading = reading ≡ Ok value
+IsReadAnswer text (Err error) reading = IsRefusal text error reading
 
 -- this result is what a reading of the text gives, unless its source failed or had too many bytes
 abbrev pub IsAnswerOfSource : {A : Type 0} → List ℕ → Result A ReadError → Result A Fault → Type 0

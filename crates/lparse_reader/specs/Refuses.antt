@@ -11,7 +11,7 @@ use Rattle.lparse_reader.specs.declared.fault.ReadError.{ReadError}
 use Rattle.lparse_reader.specs.declared.fault.ReadError.TheVariants.{Text, TooLong, ReadFault, NoMemory}
 use Rattle.lparse_reader.specs.Tokens.{is_separator, is_token_end}
 use Rattle.lparse_reader.specs.Refusal.{told}
-use Rattle.lparse_reader.specs.Pieces.{Item, number, entry, mark, IsGap, value_of, StandsNumber, StandsMark, StandsEntry, Row}
+use Rattle.lparse_reader.specs.Pieces.{Item, number, entry, mark, IsGap, value_of, StandsNumber, StandsMark, StandsEntry, PieceRow}
 use Rattle.lparse_reader.specs.Due.{Due, rules, atom, negative_count, entries, sign, models, whole, after_number, run}
 
 -- no token is left
@@ -117,7 +117,7 @@ pub record Breaks (agenda : List Due) (bytes : List ℕ) (fault : Fault) : Type 
   pub items : List Item
   pub middle : List ℕ
   pub left : List Due
-  pub row : Row items bytes middle
+  pub row : PieceRow items bytes middle
   pub good : AllByRecursion IsItem items
   pub ran : run agenda items ≡ Some left
   pub fails : FailsNext left middle fault

@@ -1,10 +1,10 @@
 // Rules.
 ghost use Rattle.std.specs.Prelude.{◌≡◌, [], ◌∷◌, IfOk};
-ghost use Rattle.lparse_reader.specs.Fields.{Gives, behind, counted_at, atom_at, part_at, weighed_at};
+ghost use Rattle.lparse_reader.specs.Fields.{ReadsAs, behind, counted_at, atom_at, part_at, weighed_at};
 ghost use Rattle.lparse_reader.specs.Reading.{kind_or_end_at, counts_at, body_at, heads_at, basic_at, constraint_at, weight_at, many_heads_at, rule_at, rule_or_end_at, all_at};
 
 use crate::fault::{Fault, Stop, TextFault};
-use crate::token_text::{atom_of, fault_here, next_token, number_of};
+use crate::token_text::{fault_here, next_token, read_atom, read_number};
 use ground_program::{AtomLit, Atoms, Body, Kind, Rule, Rules, Weighted};
 use item_list::{List, NoMemory};
 use std::alloc::Global;
@@ -21,14 +21,14 @@ pub struct Counts {
 }
 
 /// All rules.
-pub fn rules_of(alloc: Global, bytes: &[u8]) -> Result<(Rules, &[u8]), Stop>
-    ensures { Gives (λ x. (x.0, x.1.now)) result (all_at rule_or_end_at bytes.now) }
+pub fn read_rules(alloc: Global, bytes: &[u8]) -> Result<(Rules, &[u8]), Stop>
+    ensures { ReadsAs (λ x. (x.0, x.1.now)) result (all_at rule_or_end_at bytes.now) }
 {
     let mut rules = List::open();
     let mut rest = bytes;
     // Each rule takes a byte at least, and so does the end.
     for _ in 0..bytes.len() {
-        let (rule, after) = rule_or_end_of(alloc, rest)?;
+        let (rule, after) = read_rule_or_end(alloc, rest)?;
         rest = after;
         match rule {
             None => return Ok((rules, rest)),
@@ -40,14 +40,14 @@ pub fn rules_of(alloc: Global, bytes: &[u8]) -> Result<(Rules, &[u8]), Stop>
 
 /// A rule, or nothing at a 0.
 #[tactic(auto, unfolding(crate::specs::Reading::rule_or_end_at))]
-fn rule_or_end_of(alloc: Global, bytes: &[u8]) -> Result<(Option<Rule>, &[u8]), Stop>
-    ensures { Gives (λ x. (x.0, x.1.now)) result (rule_or_end_at bytes.now) }
+fn read_rule_or_end(alloc: Global, bytes: &[u8]) -> Result<(Option<Rule>, &[u8]), Stop>
+    ensures { ReadsAs (λ x. (x.0, x.1.now)) result (rule_or_end_at bytes.now) }
 {
-    let (kind, rest) = kind_or_end_of(bytes)?;
+    let (kind, rest) = read_kind_or_end(bytes)?;
     match kind {
         None => Ok((None, rest)),
         Some(kind) => {
-            let (rule, rest) = rule_of(alloc, kind, rest)?;
+            let (rule, rest) = read_rule(alloc, kind, rest)?;
             Ok((Some(rule), rest))
         }
     }
@@ -55,10 +55,10 @@ fn rule_or_end_of(alloc: Global, bytes: &[u8]) -> Result<(Option<Rule>, &[u8]), 
 
 /// A kind, or nothing at a 0.
 #[tactic(auto, unfolding(crate::specs::Reading::kind_or_end_at))]
-fn kind_or_end_of(bytes: &[u8]) -> Result<(Option<Kind>, &[u8]), Stop>
-    ensures { Gives (λ x. (x.0, x.1.now)) result (kind_or_end_at bytes.now) }
+fn read_kind_or_end(bytes: &[u8]) -> Result<(Option<Kind>, &[u8]), Stop>
+    ensures { ReadsAs (λ x. (x.0, x.1.now)) result (kind_or_end_at bytes.now) }
 {
-    let (number, rest) = number_of(bytes)?;
+    let (number, rest) = read_number(bytes)?;
     match number {
         0 => Ok((None, rest)),
         1 => Ok((Some(Kind::Basic), rest)),
@@ -72,26 +72,26 @@ fn kind_or_end_of(bytes: &[u8]) -> Result<(Option<Kind>, &[u8]), Stop>
 }
 
 /// The rule of a kind.
-fn rule_of(alloc: Global, kind: Kind, bytes: &[u8]) -> Result<(Rule, &[u8]), Stop>
-    ensures { Gives (λ x. (x.0, x.1.now)) result (rule_at kind bytes.now) }
+fn read_rule(alloc: Global, kind: Kind, bytes: &[u8]) -> Result<(Rule, &[u8]), Stop>
+    ensures { ReadsAs (λ x. (x.0, x.1.now)) result (rule_at kind bytes.now) }
 {
     match kind {
-        Kind::Basic => basic_rule_of(alloc, bytes),
-        Kind::Constraint => constraint_rule_of(alloc, bytes),
-        Kind::Choice => many_heads_rule_of(alloc, kind, bytes),
-        Kind::Weight => weight_rule_of(alloc, bytes),
-        Kind::Disjunctive => many_heads_rule_of(alloc, kind, bytes),
+        Kind::Basic => read_basic_rule(alloc, bytes),
+        Kind::Constraint => read_constraint_rule(alloc, bytes),
+        Kind::Choice => read_many_heads_rule(alloc, kind, bytes),
+        Kind::Weight => read_weight_rule(alloc, bytes),
+        Kind::Disjunctive => read_many_heads_rule(alloc, kind, bytes),
     }
 }
 
 /// The fields of a basic rule.
 #[tactic(auto, unfolding(crate::specs::Reading::basic_at))]
-fn basic_rule_of(alloc: Global, bytes: &[u8]) -> Result<(Rule, &[u8]), Stop>
-    ensures { Gives (λ x. (x.0, x.1.now)) result (basic_at bytes.now) }
+fn read_basic_rule(alloc: Global, bytes: &[u8]) -> Result<(Rule, &[u8]), Stop>
+    ensures { ReadsAs (λ x. (x.0, x.1.now)) result (basic_at bytes.now) }
 {
-    let (head, rest) = atom_of(bytes)?;
-    let (counts, rest) = counts_of(rest)?;
-    let (body, rest) = body_of(alloc, counts, rest)?;
+    let (head, rest) = read_atom(bytes)?;
+    let (counts, rest) = read_counts(rest)?;
+    let (body, rest) = read_body(alloc, counts, rest)?;
     let heads = one_head(alloc, head)?;
     let rule = Rule {
         kind: Kind::Basic,
@@ -104,13 +104,13 @@ fn basic_rule_of(alloc: Global, bytes: &[u8]) -> Result<(Rule, &[u8]), Stop>
 
 /// The fields of a constraint rule.
 #[tactic(auto, unfolding(crate::specs::Reading::constraint_at))]
-fn constraint_rule_of(alloc: Global, bytes: &[u8]) -> Result<(Rule, &[u8]), Stop>
-    ensures { Gives (λ x. (x.0, x.1.now)) result (constraint_at bytes.now) }
+fn read_constraint_rule(alloc: Global, bytes: &[u8]) -> Result<(Rule, &[u8]), Stop>
+    ensures { ReadsAs (λ x. (x.0, x.1.now)) result (constraint_at bytes.now) }
 {
-    let (head, rest) = atom_of(bytes)?;
-    let (counts, after_counts) = counts_of(rest)?;
-    let (bound, after_bound) = number_of(after_counts)?;
-    let (body, rest) = body_of(alloc, counts, after_bound)?;
+    let (head, rest) = read_atom(bytes)?;
+    let (counts, after_counts) = read_counts(rest)?;
+    let (bound, after_bound) = read_number(after_counts)?;
+    let (body, rest) = read_body(alloc, counts, after_bound)?;
     let heads = one_head(alloc, head)?;
     let rule = Rule {
         kind: Kind::Constraint,
@@ -123,14 +123,14 @@ fn constraint_rule_of(alloc: Global, bytes: &[u8]) -> Result<(Rule, &[u8]), Stop
 
 /// The fields of a weight rule.
 #[tactic(auto, unfolding(crate::specs::Reading::weight_at))]
-fn weight_rule_of(alloc: Global, bytes: &[u8]) -> Result<(Rule, &[u8]), Stop>
-    ensures { Gives (λ x. (x.0, x.1.now)) result (weight_at bytes.now) }
+fn read_weight_rule(alloc: Global, bytes: &[u8]) -> Result<(Rule, &[u8]), Stop>
+    ensures { ReadsAs (λ x. (x.0, x.1.now)) result (weight_at bytes.now) }
 {
-    let (head, rest) = atom_of(bytes)?;
-    let (bound, rest) = number_of(rest)?;
-    let (counts, rest) = counts_of(rest)?;
-    let (body, rest) = body_of(alloc, counts, rest)?;
-    let (body, rest) = weighed_of(alloc, body.as_slice(), rest)?;
+    let (head, rest) = read_atom(bytes)?;
+    let (bound, rest) = read_number(rest)?;
+    let (counts, rest) = read_counts(rest)?;
+    let (body, rest) = read_body(alloc, counts, rest)?;
+    let (body, rest) = read_weights(alloc, body.as_slice(), rest)?;
     let heads = one_head(alloc, head)?;
     let rule = Rule {
         kind: Kind::Weight,
@@ -143,12 +143,12 @@ fn weight_rule_of(alloc: Global, bytes: &[u8]) -> Result<(Rule, &[u8]), Stop>
 
 /// The fields of a choice or a disjunctive rule.
 #[tactic(auto, unfolding(crate::specs::Reading::many_heads_at))]
-fn many_heads_rule_of(alloc: Global, kind: Kind, bytes: &[u8]) -> Result<(Rule, &[u8]), Stop>
-    ensures { Gives (λ x. (x.0, x.1.now)) result (many_heads_at kind bytes.now) }
+fn read_many_heads_rule(alloc: Global, kind: Kind, bytes: &[u8]) -> Result<(Rule, &[u8]), Stop>
+    ensures { ReadsAs (λ x. (x.0, x.1.now)) result (many_heads_at kind bytes.now) }
 {
-    let (heads, rest) = heads_of(alloc, bytes)?;
-    let (counts, rest) = counts_of(rest)?;
-    let (body, rest) = body_of(alloc, counts, rest)?;
+    let (heads, rest) = read_heads(alloc, bytes)?;
+    let (counts, rest) = read_counts(rest)?;
+    let (body, rest) = read_body(alloc, counts, rest)?;
     let rule = Rule {
         kind,
         heads,
@@ -160,11 +160,11 @@ fn many_heads_rule_of(alloc: Global, kind: Kind, bytes: &[u8]) -> Result<(Rule, 
 
 /// The number of literals, and how many of them are negative.
 #[tactic(auto, unfolding(crate::specs::Reading::counts_at))]
-fn counts_of(bytes: &[u8]) -> Result<(Counts, &[u8]), Stop>
-    ensures { Gives (λ x. (x.0, x.1.now)) result (counts_at bytes.now) }
+fn read_counts(bytes: &[u8]) -> Result<(Counts, &[u8]), Stop>
+    ensures { ReadsAs (λ x. (x.0, x.1.now)) result (counts_at bytes.now) }
 {
-    let (literals, middle) = number_of(bytes)?;
-    let (negatives, rest) = number_of(middle)?;
+    let (literals, middle) = read_number(bytes)?;
+    let (negatives, rest) = read_number(middle)?;
     if literals < negatives {
         return Err(fault_here(
             TextFault::NegativeCount,
@@ -182,11 +182,11 @@ fn counts_of(bytes: &[u8]) -> Result<(Counts, &[u8]), Stop>
 
 /// The number of heads and then the heads.
 #[tactic(auto, unfolding(crate::specs::Reading::heads_at))]
-fn heads_of(alloc: Global, bytes: &[u8]) -> Result<(Atoms, &[u8]), Stop>
-    ensures { Gives (λ x. (x.0, x.1.now)) result (heads_at bytes.now) }
+fn read_heads(alloc: Global, bytes: &[u8]) -> Result<(Atoms, &[u8]), Stop>
+    ensures { ReadsAs (λ x. (x.0, x.1.now)) result (heads_at bytes.now) }
 {
-    let (count, rest) = number_of(bytes)?;
-    atoms_of(alloc, count, rest)
+    let (count, rest) = read_number(bytes)?;
+    read_atoms(alloc, count, rest)
 }
 
 /// The list of one head.
@@ -199,13 +199,13 @@ fn one_head(alloc: Global, head: u32) -> Result<Atoms, NoMemory>
 }
 
 /// So many atoms.
-fn atoms_of(alloc: Global, count: u32, bytes: &[u8]) -> Result<(Atoms, &[u8]), Stop>
-    ensures { Gives (λ x. (x.0, x.1.now)) result (counted_at atom_at count bytes.now) }
+fn read_atoms(alloc: Global, count: u32, bytes: &[u8]) -> Result<(Atoms, &[u8]), Stop>
+    ensures { ReadsAs (λ x. (x.0, x.1.now)) result (counted_at atom_at count bytes.now) }
 {
     let mut atoms = List::open();
     let mut rest = bytes;
     for _ in 0..count {
-        let (atom, after) = atom_of(rest)?;
+        let (atom, after) = read_atom(rest)?;
         atoms.push(alloc, atom)?;
         rest = after;
     }
@@ -214,27 +214,27 @@ fn atoms_of(alloc: Global, count: u32, bytes: &[u8]) -> Result<(Atoms, &[u8]), S
 
 /// The negative literals and then the positive ones.
 #[tactic(auto, unfolding(crate::specs::Reading::body_at))]
-fn body_of(alloc: Global, counts: Counts, bytes: &[u8]) -> Result<(Body, &[u8]), Stop>
-    ensures { Gives (λ x. (x.0, x.1.now)) result (body_at counts bytes.now) }
+fn read_body(alloc: Global, counts: Counts, bytes: &[u8]) -> Result<(Body, &[u8]), Stop>
+    ensures { ReadsAs (λ x. (x.0, x.1.now)) result (body_at counts bytes.now) }
 {
-    let (body, rest) = parts_of(alloc, List::open(), true, counts.negatives, bytes)?;
-    parts_of(alloc, body, false, counts.positives, rest)
+    let (body, rest) = read_parts(alloc, List::open(), true, counts.negatives, bytes)?;
+    read_parts(alloc, body, false, counts.positives, rest)
 }
 
 /// So many literals of the weight 1 behind those that are there.
-fn parts_of(
+fn read_parts(
     alloc: Global,
     before: Body,
     negated: bool,
     count: u32,
     bytes: &[u8],
 ) -> Result<(Body, &[u8]), Stop>
-    ensures { Gives (λ x. (x.0, x.1.now)) result (behind before (counted_at (part_at negated) count bytes.now)) }
+    ensures { ReadsAs (λ x. (x.0, x.1.now)) result (behind before (counted_at (part_at negated) count bytes.now)) }
 {
     let mut body = before;
     let mut rest = bytes;
     for _ in 0..count {
-        let (part, after) = part_of(negated, rest)?;
+        let (part, after) = read_part(negated, rest)?;
         body.push(alloc, part)?;
         rest = after;
     }
@@ -243,26 +243,26 @@ fn parts_of(
 
 /// A literal of the weight 1.
 #[tactic(auto, unfolding(crate::specs::Fields::part_at))]
-fn part_of(negated: bool, bytes: &[u8]) -> Result<(Weighted, &[u8]), Stop>
-    ensures { Gives (λ x. (x.0, x.1.now)) result (part_at negated bytes.now) }
+fn read_part(negated: bool, bytes: &[u8]) -> Result<(Weighted, &[u8]), Stop>
+    ensures { ReadsAs (λ x. (x.0, x.1.now)) result (part_at negated bytes.now) }
 {
-    let (atom, rest) = atom_of(bytes)?;
+    let (atom, rest) = read_atom(bytes)?;
     let lit = AtomLit { atom, negated };
     Ok((Weighted { lit, weight: 1 }, rest))
 }
 
 /// The literals with weights from here in place of their own.
-fn weighed_of<'a>(
+fn read_weights<'a>(
     alloc: Global,
     parts: &[Weighted],
     bytes: &'a [u8],
 ) -> Result<(Body, &'a [u8]), Stop>
-    ensures { Gives (λ x. (x.0, x.1.now)) result (weighed_at parts.now bytes.now) }
+    ensures { ReadsAs (λ x. (x.0, x.1.now)) result (weighed_at parts.now bytes.now) }
 {
     let mut body = List::open();
     let mut rest = bytes;
     for part in parts {
-        let (weight, after) = number_of(rest)?;
+        let (weight, after) = read_number(rest)?;
         body.push(
             alloc,
             Weighted {

@@ -1,24 +1,24 @@
 // The symbol table.
 ghost use Rattle.std.specs.Prelude.{◌≡◌, [], length, IfOk};
 ghost use Rattle.lparse_reader.specs.Tokens.{line_of, after_line, trimmed};
-ghost use Rattle.lparse_reader.specs.Fields.{Gives, name_at, entry_or_end_at};
+ghost use Rattle.lparse_reader.specs.Fields.{ReadsAs, name_at, entry_or_end_at};
 ghost use Rattle.lparse_reader.specs.Reading.{all_at};
 
 use crate::fault::{Fault, Stop, TextFault};
-use crate::token_text::{fault_here, next_token, number_of};
+use crate::token_text::{fault_here, next_token, read_number};
 use ground_program::{Name, Named, Names};
 use item_list::{List, NoMemory};
 use std::alloc::Global;
 
 /// All entries.
-pub fn names_of(alloc: Global, bytes: &[u8]) -> Result<(Names, &[u8]), Stop>
-    ensures { Gives (λ x. (x.0, x.1.now)) result (all_at entry_or_end_at bytes.now) }
+pub fn read_names(alloc: Global, bytes: &[u8]) -> Result<(Names, &[u8]), Stop>
+    ensures { ReadsAs (λ x. (x.0, x.1.now)) result (all_at entry_or_end_at bytes.now) }
 {
     let mut names = List::open();
     let mut rest = bytes;
     // Each entry takes a byte at least, and so does the end.
     for _ in 0..bytes.len() {
-        let (named, after) = entry_or_end_of(alloc, rest)?;
+        let (named, after) = read_entry_or_end(alloc, rest)?;
         rest = after;
         match named {
             None => return Ok((names, rest)),
@@ -30,10 +30,10 @@ pub fn names_of(alloc: Global, bytes: &[u8]) -> Result<(Names, &[u8]), Stop>
 
 /// An entry, or nothing at a 0.
 #[tactic(auto, unfolding(crate::specs::Fields::entry_or_end_at))]
-fn entry_or_end_of(alloc: Global, bytes: &[u8]) -> Result<(Option<Named>, &[u8]), Stop>
-    ensures { Gives (λ x. (x.0, x.1.now)) result (entry_or_end_at bytes.now) }
+fn read_entry_or_end(alloc: Global, bytes: &[u8]) -> Result<(Option<Named>, &[u8]), Stop>
+    ensures { ReadsAs (λ x. (x.0, x.1.now)) result (entry_or_end_at bytes.now) }
 {
-    let (atom, rest) = number_of(bytes)?;
+    let (atom, rest) = read_number(bytes)?;
     if atom == 0 {
         return Ok((None, rest));
     }
@@ -47,7 +47,7 @@ fn name_of<'a>(
     atom: u32,
     bytes: &'a [u8],
 ) -> Result<(Option<Named>, &'a [u8]), Stop>
-    ensures { Gives (λ x. (x.0, x.1.now)) result (name_at (length token.now) atom bytes.now) }
+    ensures { ReadsAs (λ x. (x.0, x.1.now)) result (name_at (length token.now) atom bytes.now) }
 {
     match bytes {
         [b' ' | b'\t', line @ ..] => {

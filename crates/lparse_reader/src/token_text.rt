@@ -1,7 +1,7 @@
 // The fields that are one token.
 ghost use Rattle.std.specs.Prelude.{◌≡◌, [], length};
 ghost use Rattle.lparse_reader.specs.Tokens.{is_separator, skipped, is_token_end};
-ghost use Rattle.lparse_reader.specs.Fields.{Gives, digits_at, number_at, atom_at, atom_or_end_at, mark_at, models_at, end_at};
+ghost use Rattle.lparse_reader.specs.Fields.{ReadsAs, digits_at, number_at, atom_at, atom_or_end_at, mark_at, models_at, end_at};
 
 use crate::fault::{Fault, Stop, TextFault};
 
@@ -47,19 +47,19 @@ pub fn fault_here(why: TextFault, here: &[u8], value: u64) -> Stop
 
 /// A number.
 #[tactic(auto, unfolding(crate::specs::Fields::number_at))]
-pub fn number_of(bytes: &[u8]) -> Result<(u32, &[u8]), Stop>
-    ensures { Gives (λ x. (x.0, x.1.now)) result (number_at bytes.now) }
+pub fn read_number(bytes: &[u8]) -> Result<(u32, &[u8]), Stop>
+    ensures { ReadsAs (λ x. (x.0, x.1.now)) result (number_at bytes.now) }
 {
     let here = next_token(bytes);
     match here {
         [] => Err(Stop::Fault(Fault::Ended)),
-        [_, ..] => digits_of(here),
+        [_, ..] => read_digits(here),
     }
 }
 
 /// The number that begins here.
-fn digits_of(here: &[u8]) -> Result<(u32, &[u8]), Stop>
-    ensures { Gives (λ x. (x.0, x.1.now)) result (digits_at (length here.now) 0 here.now) }
+fn read_digits(here: &[u8]) -> Result<(u32, &[u8]), Stop>
+    ensures { ReadsAs (λ x. (x.0, x.1.now)) result (digits_at (length here.now) 0 here.now) }
 {
     let mut number: u64 = 0;
     for (at, byte) in here.iter().enumerate() {
@@ -79,10 +79,10 @@ fn digits_of(here: &[u8]) -> Result<(u32, &[u8]), Stop>
 
 /// An atom, which is at least 1.
 #[tactic(auto, unfolding(crate::specs::Fields::atom_at))]
-pub fn atom_of(bytes: &[u8]) -> Result<(u32, &[u8]), Stop>
-    ensures { Gives (λ x. (x.0, x.1.now)) result (atom_at bytes.now) }
+pub fn read_atom(bytes: &[u8]) -> Result<(u32, &[u8]), Stop>
+    ensures { ReadsAs (λ x. (x.0, x.1.now)) result (atom_at bytes.now) }
 {
-    let (atom, rest) = number_of(bytes)?;
+    let (atom, rest) = read_number(bytes)?;
     if atom == 0 {
         return Err(fault_here(TextFault::AtomZero, next_token(bytes), 0));
     }
@@ -91,8 +91,8 @@ pub fn atom_of(bytes: &[u8]) -> Result<(u32, &[u8]), Stop>
 
 /// The bytes after a mark, which is a `B` and a sign.
 #[tactic(auto, unfolding(crate::specs::Fields::mark_at))]
-pub fn after_mark(sign: u8, place: u64, bytes: &[u8]) -> Result<&[u8], Stop>
-    ensures { Gives (λ x. x.now) result (mark_at sign place bytes.now) }
+pub fn read_mark(sign: u8, place: u64, bytes: &[u8]) -> Result<&[u8], Stop>
+    ensures { ReadsAs (λ x. x.now) result (mark_at sign place bytes.now) }
 {
     let here = next_token(bytes);
     match here {
@@ -104,22 +104,22 @@ pub fn after_mark(sign: u8, place: u64, bytes: &[u8]) -> Result<&[u8], Stop>
 
 /// The number of models.
 #[tactic(auto, unfolding(crate::specs::Fields::models_at))]
-pub fn models_of(bytes: &[u8]) -> Result<(u32, &[u8]), Stop>
-    ensures { Gives (λ x. (x.0, x.1.now)) result (models_at bytes.now) }
+pub fn read_models(bytes: &[u8]) -> Result<(u32, &[u8]), Stop>
+    ensures { ReadsAs (λ x. (x.0, x.1.now)) result (models_at bytes.now) }
 {
     let here = next_token(bytes);
     match here {
         [b'E', rest @ ..] if ends_token(rest) => {
             Err(fault_here(TextFault::ExternalSection, here, 69))
         }
-        _ => number_of(bytes),
+        _ => read_number(bytes),
     }
 }
 
 /// Refuses another token.
 #[tactic(auto, unfolding(crate::specs::Fields::end_at))]
-pub fn refuse_more(bytes: &[u8]) -> Result<(), Stop>
-    ensures { Gives (λ _. []) result (end_at bytes.now) }
+pub fn read_end(bytes: &[u8]) -> Result<(), Stop>
+    ensures { ReadsAs (λ _. []) result (end_at bytes.now) }
 {
     let here = next_token(bytes);
     match here {

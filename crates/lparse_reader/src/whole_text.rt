@@ -1,20 +1,20 @@
 // Whole texts.
 ghost use Rattle.std.specs.Prelude.{◌≡◌, ◌≤◌, ℕ, length, IfOk, IfErr};
 ghost use Rattle.ground_program.specs.declared.program.Program.{Program};
-ghost use Rattle.lparse_reader.specs.Fields.{Gives};
+ghost use Rattle.lparse_reader.specs.Fields.{ReadsAs};
 ghost use Rattle.lparse_reader.specs.Reading.{program_at, made};
 ghost use Rattle.lparse_reader.specs.declared.fault.TextFault.{TextFault};
 ghost use Rattle.lparse_reader.specs.Pieces.{Reads};
 ghost use Rattle.lparse_reader.specs.Refuses.{Refuses, IsRefused, IsTextUnlessNoMemory};
 ghost use Rattle.lparse_reader.specs.Tokens.{line_at};
-ghost use Rattle.lparse_reader.specs.Refusal.{IsAnswer, IsProgramUnlessNoMemory, told};
+ghost use Rattle.lparse_reader.specs.Refusal.{IsReadAnswer, IsProgramUnlessNoMemory, told};
 
-use crate::compute_text::atoms_to_end;
+use crate::compute_text::read_atoms_to_end;
 use crate::fault::{Fault, ReadError, Stop, TextFault};
 use crate::greatest::{greatest_of, greatest_of_names, greatest_of_rules};
-use crate::rule_text::rules_of;
-use crate::symbol_text::names_of;
-use crate::token_text::{after_mark, models_of, refuse_more};
+use crate::rule_text::read_rules;
+use crate::symbol_text::read_names;
+use crate::token_text::{read_end, read_mark, read_models};
 use ground_program::{Atoms, Names, Program, Rules};
 use std::alloc::Global;
 
@@ -30,17 +30,17 @@ pub fn parse(alloc: Global, bytes: &[u8]) -> Result<Program, ReadError>
     ensures all_refused { (why : TextFault) (line value : ℕ) → Refuses bytes.now why line value
         → IsTextUnlessNoMemory result why line value }
     // Both by reading from left to right.
-    ensures exact { IsAnswer bytes.now result (program_at bytes.now) }
+    ensures exact { IsReadAnswer bytes.now result (program_at bytes.now) }
 {
-    answer_of(alloc, bytes)
+    parse_whole(alloc, bytes)
 }
 
 /// The program of a text, or its first fault as it is told.
-fn answer_of(alloc: Global, bytes: &[u8]) -> Result<Program, ReadError>
+fn parse_whole(alloc: Global, bytes: &[u8]) -> Result<Program, ReadError>
     requires { length bytes.now ≤ 67108864 }
-    ensures { IsAnswer bytes.now result (program_at bytes.now) }
+    ensures { IsReadAnswer bytes.now result (program_at bytes.now) }
 {
-    match program_of(alloc, bytes) {
+    match read_fields(alloc, bytes) {
         Ok(program) => Ok(program),
         Err(Stop::Fault(fault)) => Err(refusal_of(bytes, fault)),
         Err(Stop::NoMemory) => Err(ReadError::NoMemory),
@@ -78,17 +78,17 @@ fn line_of_place(bytes: &[u8], left: usize) -> u32
 
 /// The program of a text, or the first fault.
 #[tactic(auto, unfolding(crate::specs::Reading::program_at))]
-fn program_of(alloc: Global, bytes: &[u8]) -> Result<Program, Stop>
-    ensures { Gives (λ x. x) result (program_at bytes.now) }
+fn read_fields(alloc: Global, bytes: &[u8]) -> Result<Program, Stop>
+    ensures { ReadsAs (λ x. x) result (program_at bytes.now) }
 {
-    let (rules, rest) = rules_of(alloc, bytes)?;
-    let (names, rest) = names_of(alloc, rest)?;
-    let rest = after_mark(b'+', 1, rest)?;
-    let (must, rest) = atoms_to_end(alloc, rest)?;
-    let rest = after_mark(b'-', 2, rest)?;
-    let (must_not, rest) = atoms_to_end(alloc, rest)?;
-    let (models, rest) = models_of(rest)?;
-    refuse_more(rest)?;
+    let (rules, rest) = read_rules(alloc, bytes)?;
+    let (names, rest) = read_names(alloc, rest)?;
+    let rest = read_mark(b'+', 1, rest)?;
+    let (must, rest) = read_atoms_to_end(alloc, rest)?;
+    let rest = read_mark(b'-', 2, rest)?;
+    let (must_not, rest) = read_atoms_to_end(alloc, rest)?;
+    let (models, rest) = read_models(rest)?;
+    read_end(rest)?;
     Ok(made_of(rules, names, must, must_not, models))
 }
 

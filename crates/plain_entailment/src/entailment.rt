@@ -8,8 +8,8 @@ use crate::choices::holds_with_choices;
 use crate::truth::{extended, longer};
 use clause_store::{Clause, Lit, Units};
 use ground_program::{NoMemory, Program, Set};
-use plain_answer_sets::is_answer_set;
 use normal_program::{Normal, normal_form_means_the_program};
+use plain_answer_sets::is_answer_set;
 use std::alloc::Global;
 
 /// Whether the clause holds in each answer set of the program, with each choice of the selectors

@@ -11,7 +11,7 @@ use Rattle.clause_store.specs.declared.step.Step.{Step}
 use Rattle.clause_store.specs.Clause.{variable, negation, is_negated}
 use Rattle.clause_store.specs.Entailment.{InClosure, IsClosed, Refutes, negations, others}
 use Rattle.clause_store.specs.Trail.{Assigned, IsTrail, step_of, value_by, value_of}
-use Rattle.clause_store.specs.Standing.{IsUnitOn}
+use Rattle.clause_store.specs.Standing.{ForcesOn}
 use Rattle.clause_store.proofs.LiteralLemmas.{cases_lit, has_first, has_later, has_mapped, is_negated-negation, lit_of_code, mapped_from, variable-negation}
 use Rattle.clause_store.proofs.TrailLemmas.{find_passes}
 use Rattle.propagator.specs.Fixpoint.{IsFixpoint, IsQuietOn}
@@ -128,7 +128,7 @@ passes_apart : (one two : Lit) → not (eqb one.0 two.0) ≡ true → one ≢ tw
 passes_apart one two passes same = let e : eqb one.0 two.0 ≡ true = eq-eqb one.0 two.0 (ap (λ l. l.0) same) in let f : true ≡ false = sym passes ∙ ap not e in absurd (false≢true (sym f))
 
 -- the negations of the literals of a unit other than its own are true
-others_true : (steps : List Step) (clause : List Lit) (lit : Lit) → IsUnitOn steps clause lit → All (λ it. value_of steps it ≡ Yes) (negations (others clause lit))
+others_true : (steps : List Step) (clause : List Lit) (lit : Lit) → ForcesOn steps clause lit → All (λ it. value_of steps it ≡ Yes) (negations (others clause lit))
 others_true steps clause lit is =
     All-map (λ it. value_of steps it ≡ Yes) negation (others clause lit)
     (λ k d within. no_negated steps (get_or (others clause lit) k d)

@@ -9,7 +9,7 @@ use Rattle.clause_store.specs.declared.literal.Value.TheVariants.{Yes, No, Unset
 use Rattle.clause_store.specs.declared.step.Step.{Step}
 use Rattle.clause_store.specs.Clause.{variable, HasNoVariableTwice}
 use Rattle.clause_store.specs.Trail.{value_of}
-use Rattle.clause_store.specs.Standing.{IsFalseOn, IsUnitOn}
+use Rattle.clause_store.specs.Standing.{IsFalseOn, ForcesOn}
 use Rattle.clause_store.proofs.LiteralLemmas.{cases_lit}
 use Rattle.propagator.specs.declared.standing.Standing.{Standing}
 use Rattle.propagator.specs.declared.standing.Standing.TheVariants.{Satisfied, Open, Unit as UnitLit, False}
@@ -47,7 +47,7 @@ stands_with_false steps clause lit (UnitLit first) none is_no is =
 stands_with_false steps clause lit False none is_no is = All-push (λ l. value_of steps l ≡ No) clause lit is is_no
 
 -- the first unset literal is the one of a unit
-pub stands_with_first : (steps : List Step) (clause : List Lit) (lit : Lit) → IsFalseOn steps clause → value_of steps lit ≡ Unset → IsUnitOn steps (clause ++ lit ∷ []) lit
+pub stands_with_first : (steps : List Step) (clause : List Lit) (lit : Lit) → IsFalseOn steps clause → value_of steps lit ≡ Unset → ForcesOn steps (clause ++ lit ∷ []) lit
 stands_with_first steps clause lit all_false unset =
     record {
       here = Contains-push clause lit;

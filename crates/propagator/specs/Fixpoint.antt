@@ -3,12 +3,12 @@ use Rattle.std.specs.Prelude.{◌≡◌, ◌++◌, List, All, IsSome}
 use Rattle.clause_store.specs.declared.literal.Lit.{Lit}
 use Rattle.clause_store.specs.declared.step.Step.{Step}
 use Rattle.clause_store.specs.Trail.{Assigned, present_level}
-use Rattle.clause_store.specs.Standing.{IsFalseOn, IsUnitOn}
+use Rattle.clause_store.specs.Standing.{IsFalseOn, ForcesOn}
 
 -- a clause is neither false nor a unit
 pub record IsQuietOn (steps : List Step) (clause : List Lit) : Type 0 where
   pub not_false : ¬ IsFalseOn steps clause
-  pub not_unit : (lit : Lit) → ¬ IsUnitOn steps clause lit
+  pub not_unit : (lit : Lit) → ¬ ForcesOn steps clause lit
 
 -- no clause is false, and none is a unit with its literal unset
 abbrev pub IsFixpoint : List (List Lit) → List Step → Type 0

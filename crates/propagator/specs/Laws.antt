@@ -7,7 +7,7 @@ use Rattle.clause_store.specs.declared.step.Step.{Step}
 use Rattle.clause_store.specs.Clause.{IsOver, AreOver, Meets}
 use Rattle.clause_store.specs.Entailment.{Absorbs, InClosure, Refutes}
 use Rattle.clause_store.specs.Trail.{Assigned, IsTrail, IsTrailOf, IsTotal, value_of, values_of}
-use Rattle.clause_store.specs.Standing.{AreOn, IsFalse, IsUnitOn}
+use Rattle.clause_store.specs.Standing.{AreOn, IsFalse, ForcesOn}
 use Rattle.propagator.specs.Watched.{Watched, IsAttached, IsReady}
 use Rattle.propagator.specs.Fixpoint.{Extends, IsFixpoint}
 
@@ -77,7 +77,7 @@ FixpointRefutesNone =
 abbrev pub FixpointAbsorbsNoUnit : Type 0
 FixpointAbsorbsNoUnit =
     (trail : Assigned) (clauses : List (List Lit)) (clause : List Lit) (lit : Lit) → IsTrail trail → IsFixpoint clauses trail.steps
-    → IsUnitOn trail.steps clause lit → ¬ Absorbs clauses clause
+    → ForcesOn trail.steps clause lit → ¬ Absorbs clauses clause
 
 -- the assignment of a total trail at a fixpoint meets the clauses
 abbrev pub TotalFixpointMeets : Type 0

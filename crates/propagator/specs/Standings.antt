@@ -4,7 +4,7 @@ use Rattle.clause_store.specs.declared.literal.Lit.{Lit}
 use Rattle.clause_store.specs.declared.literal.Value.TheVariants.{Yes, Unset}
 use Rattle.clause_store.specs.declared.step.Step.{Step}
 use Rattle.clause_store.specs.Trail.{value_of}
-use Rattle.clause_store.specs.Standing.{IsFalseOn, IsUnitOn}
+use Rattle.clause_store.specs.Standing.{IsFalseOn, ForcesOn}
 use Rattle.propagator.specs.declared.standing.Standing.{Standing}
 use Rattle.propagator.specs.declared.standing.Standing.TheVariants.{Satisfied, Open, Unit as UnitLit, False}
 
@@ -27,5 +27,5 @@ pub record IsOpenOn (steps : List Step) (clause : List Lit) : Type 0 where
 abbrev pub IsStanding : List Step → List Lit → Standing → Type 0
 IsStanding steps clause Satisfied = Any (λ lit. value_of steps lit ≡ Yes) clause
 IsStanding steps clause Open = IsOpenOn steps clause
-IsStanding steps clause (UnitLit lit) = IsUnitOn steps clause lit
+IsStanding steps clause (UnitLit lit) = ForcesOn steps clause lit
 IsStanding steps clause False = IsFalseOn steps clause

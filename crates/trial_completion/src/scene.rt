@@ -10,8 +10,8 @@ use clause_store::{ClauseRef, Lit, NoMemory, Store, Trail, Value};
 use completion::complete;
 use ground_program::Program;
 use lparse_reader::parse;
-use propagator::{Watches, propagate};
 use normal_program::Normal;
+use propagator::{Watches, propagate};
 use rule_normaliser::normalise;
 use std::alloc::Global;
 

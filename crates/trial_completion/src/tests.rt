@@ -1,8 +1,8 @@
 use crate::scene::{normal_of, program_of, scene_of};
 use clause_store::{Clause, ClauseRef, Lit, NoMemory, Store, Units, Value};
 use completion::complete;
-use plain_entailment::is_entailed;
 use normal_program::Normal;
+use plain_entailment::is_entailed;
 use rule_normaliser::{NormalError, normalise};
 use std::alloc::Global;
 use std::test::Fail;

@@ -19,18 +19,18 @@ use Rattle.clause_store.proofs.EntailmentLemmas.{not_refuted}
 use Rattle.propagator.specs.Fixpoint.{IsFixpoint}
 use Rattle.propagator.proofs.TotalLemmas.{total_fixpoint_meets}
 use Rattle.conflict_learning.specs.Analysis.{level_at, greatest_level}
-use Rattle.conflict_learning.specs.Refusal.{IsCore, IsDecision, CannotMeet}
+use Rattle.conflict_learning.specs.AssumptionCore.{IsCore, IsDecision, CannotMeet}
 use Rattle.conflict_learning.proofs.AssignedLemmas.{here_at, level_found, refuter, step_of_before}
 use Rattle.conflict_learning.proofs.GivenLemmas.{ground_known}
 use Rattle.conflict_learning.proofs.LearnedLemmas.{conflict_false}
-use Rattle.trial_learning.specs.Search.{AreTrue, AreAssumedFirst, MeanTheSame, IsModel, IsUnmet, IsAnswer}
+use Rattle.trial_learning.specs.Search.{AreTrue, AreAssumedFirst, MeanTheSame, IsModelUnder, IsUnmet, IsSearchAnswer}
 use Rattle.trial_learning.specs.declared.search.Answer.{Answer}
 use Rattle.trial_learning.specs.declared.search.Answer.TheVariants.{Model, Core}
 
 -- ---- models
 
 pub is_model : (trail : Assigned) (clauses : List (List Lit)) (assumed : List Lit) → IsTotal trail → AreOver trail.vars clauses → IsFixpoint clauses trail.steps
-    → All (IsOver trail.vars) assumed → AreTrue trail.steps assumed → IsModel clauses assumed trail
+    → All (IsOver trail.vars) assumed → AreTrue trail.steps assumed → IsModelUnder clauses assumed trail
 is_model trail clauses assumed total over fixpoint assumed_over are =
     record {
       meets = total_fixpoint_meets trail clauses total over fixpoint;
@@ -99,7 +99,7 @@ core_unmet clauses steps assumed refused core first here wrong is unmet =
 -- ---- answers
 
 -- an answer about clauses that mean the same
-pub answer_before : (old new : List (List Lit)) (assumed : List Lit) (trail : Assigned) (answer : Answer) → MeanTheSame old new → IsAnswer new assumed trail answer → IsAnswer old assumed trail answer
+pub answer_before : (old new : List (List Lit)) (assumed : List Lit) (trail : Assigned) (answer : Answer) → MeanTheSame old new → IsSearchAnswer new assumed trail answer → IsSearchAnswer old assumed trail answer
 answer_before old new assumed trail Model same is = record { meets = (same (values_of trail)).1 is.meets; true_lits = is.true_lits }
 answer_before old new assumed trail (Core core) same is = record { among = is.among; unmet = λ values meets all. is.unmet values ((same values).0 meets) all }
 

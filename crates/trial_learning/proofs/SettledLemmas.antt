@@ -10,7 +10,7 @@ use Rattle.clause_store.specs.declared.literal.Value.TheVariants.{No, Unset}
 use Rattle.clause_store.specs.declared.step.Step.{Step}
 use Rattle.clause_store.specs.Clause.{HasNoVariableTwice, variable}
 use Rattle.clause_store.specs.Entailment.{IsUnit, others}
-use Rattle.clause_store.specs.Standing.{IsFalse, IsUnitOn}
+use Rattle.clause_store.specs.Standing.{IsFalse, ForcesOn}
 use Rattle.clause_store.specs.Trail.{Assigned, IsTrail, level_of, present_level, up_to, value_of}
 use Rattle.clause_store.proofs.BackLemmas.{back_twice, none_up_to, values_after_back}
 use Rattle.clause_store.proofs.LiteralLemmas.{cases_lit, kept_passes}
@@ -99,7 +99,7 @@ learned_is_unit clauses trail back_trail clause lit back is settled there steps 
       some = omega (arith, here.1);
       once = is.once;
       new = fixpoint_absorbs_no_unit back_trail clauses clause lit there (subst (IsFixpoint clauses) (sym steps) (settled back is.below))
-          (subst (λ s. IsUnitOn s clause lit) (sym steps) (learned_is_a_unit trail clause lit back is.is_trail above is.is_false is.asserting is.level));
+          (subst (λ s. ForcesOn s clause lit) (sym steps) (learned_is_a_unit trail clause lit back is.is_trail above is.is_false is.asserting is.level));
     }
 
 -- at still lower levels two of its literals are unset

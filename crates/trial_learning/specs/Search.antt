@@ -6,7 +6,7 @@ use Rattle.clause_store.specs.declared.step.Step.{Step}
 use Rattle.clause_store.specs.Clause.{Meets, IsTrueIn, IsOver, IsClause}
 use Rattle.clause_store.specs.Entailment.{AreUnits}
 use Rattle.clause_store.specs.Trail.{Assigned, present_level, up_to, value_of, values_of}
-use Rattle.conflict_learning.specs.Refusal.{CannotMeet}
+use Rattle.conflict_learning.specs.AssumptionCore.{CannotMeet}
 use Rattle.propagator.specs.Fixpoint.{IsFixpoint}
 use Rattle.propagator.specs.Watched.{IsReady}
 use Rattle.trial_learning.specs.declared.search.Search.{Search}
@@ -55,17 +55,17 @@ pub record GoesOn (assumed : List Lit) (clauses more : List (List Lit)) (old new
   pub settled : AreSettledBelow clauses old.steps → AreSettledBelow more new.steps
 
 -- the clauses are as many, and the assignments are more
-pub record IsLonger (clauses more : List (List Lit)) (old new : List Step) : Type 0 where
+pub record IsLaterState (clauses more : List (List Lit)) (old new : List Step) : Type 0 where
   pub same : length more ≡ length clauses
   pub steps : length old < length new
 
 -- a search came nearer to its end: it has one clause more, or more assignments
 abbrev pub IsNearer : List (List Lit) → List (List Lit) → List Step → List Step → Type 0
 IsNearer clauses more old new =
-    (length more ≡ length clauses + 1) ⊎ IsLonger clauses more old new
+    (length more ≡ length clauses + 1) ⊎ IsLaterState clauses more old new
 
 -- the assignments of a trail meet the clauses, and make the assumed literals true
-pub record IsModel (clauses : List (List Lit)) (assumed : List Lit) (trail : Assigned) : Type 0 where
+pub record IsModelUnder (clauses : List (List Lit)) (assumed : List Lit) (trail : Assigned) : Type 0 where
   pub meets : Meets (values_of trail) clauses
   pub true_lits : All (IsTrueIn (values_of trail)) assumed
 
@@ -75,9 +75,9 @@ pub record IsUnmet (clauses : List (List Lit)) (assumed core : List Lit) : Type 
   pub unmet : CannotMeet clauses core
 
 -- what each answer says
-abbrev pub IsAnswer : List (List Lit) → List Lit → Assigned → Answer → Type 0
-IsAnswer clauses assumed trail Model = IsModel clauses assumed trail
-IsAnswer clauses assumed trail (Core core) = IsUnmet clauses assumed core
+abbrev pub IsSearchAnswer : List (List Lit) → List Lit → Assigned → Answer → Type 0
+IsSearchAnswer clauses assumed trail Model = IsModelUnder clauses assumed trail
+IsSearchAnswer clauses assumed trail (Core core) = IsUnmet clauses assumed core
 
 -- a clause over the variables 1 to `vars`
 pub record IsClauseOver (vars : ℕ) (clause : List Lit) : Type 0 where

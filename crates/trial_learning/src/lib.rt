@@ -3,14 +3,14 @@
 #![tactic(auto)]
 
 #[cfg(test)]
-mod every;
+mod all_assignments;
+mod next_decision;
 #[cfg(test)]
 mod random;
 mod search;
-mod steering;
 #[cfg(test)]
 mod tests;
 #[cfg(test)]
-mod units;
+mod unit_checks;
 
 pub use search::{Answer, Search};

@@ -8,9 +8,9 @@ ghost use Rattle.clause_store.specs.Trail.{IsTrail, present_level, up_to};
 ghost use Rattle.propagator.specs.Watched.{IsReady};
 ghost use Rattle.propagator.specs.Fixpoint.{IsFixpoint};
 ghost use Rattle.trial_learning.specs.Search.{AreAssumedFirst, AreSettledBelow, AreTrue};
-ghost use Rattle.trial_learning.specs.Search.{AddsUnits, GoesOn, IsAnswer, IsLonger, IsNearer, IsNotTrueAt};
+ghost use Rattle.trial_learning.specs.Search.{AddsUnits, GoesOn, IsSearchAnswer, IsLaterState, IsNearer, IsNotTrueAt};
 
-use crate::steering::{first_not_true, know_trail, least_unset};
+use crate::next_decision::{first_not_true, know_trail, least_unset};
 use clause_store::{Clause, ClauseRef, Lit, NoMemory, Store, Trail, Value};
 use conflict_learning::{Learned, analyse, final_core, greatest_level};
 use propagator::{Watches, propagate};
@@ -86,7 +86,7 @@ impl Search {
         ensures vars { OnOk result (self.new.trail.vars ≡ self.old.trail.vars) }
         ensures units { OnOk result (AddsUnits self.old.store self.new.store) }
         ensures answer { IfOk result (λ it.
-            IfSome it (IsAnswer self.old.store assumed.now self.new.trail)) }
+            IfSome it (IsSearchAnswer self.old.store assumed.now self.new.trail)) }
         ensures none { IfOk result (λ it.
             IfNone it (length self.old.store + conflicts < length self.new.store)) }
     {
@@ -111,7 +111,7 @@ impl Search {
         ensures on { OnOk result (
             GoesOn assumed.now self.old.store self.new.store self.old.trail self.new.trail) }
         ensures answer { IfOk result (λ it.
-            IfSome it (IsAnswer self.old.store assumed.now self.new.trail)) }
+            IfSome it (IsSearchAnswer self.old.store assumed.now self.new.trail)) }
         ensures nearer { IfOk result (λ it. IfNone it (
             IsNearer self.old.store self.new.store self.old.trail.steps self.new.trail.steps)) }
     {
@@ -131,7 +131,7 @@ impl Search {
         ensures on { OnOk result ((assumed : List Lit) →
             GoesOn assumed self.old.store self.new.store self.old.trail self.new.trail) }
         ensures answer { IfOk result (λ it. IfSome it (λ answer. (assumed : List Lit) →
-            IsAnswer self.old.store assumed self.new.trail answer)) }
+            IsSearchAnswer self.old.store assumed self.new.trail answer)) }
         ensures nearer { IfOk result (λ it. IfNone it (
             length self.new.store ≡ length self.old.store + 1)) }
     {
@@ -178,9 +178,9 @@ impl Search {
         ensures on { OnOk result (
             GoesOn assumed.now self.old.store self.new.store self.old.trail self.new.trail) }
         ensures answer { IfOk result (λ it.
-            IfSome it (IsAnswer self.old.store assumed.now self.new.trail)) }
+            IfSome it (IsSearchAnswer self.old.store assumed.now self.new.trail)) }
         ensures nearer { IfOk result (λ it. IfNone it (
-            IsLonger self.old.store self.new.store self.old.trail.steps self.new.trail.steps)) }
+            IsLaterState self.old.store self.new.store self.old.trail.steps self.new.trail.steps)) }
     {
         match first_not_true(&self.trail, assumed) {
             Some(at) => self.assume(alloc, assumed, at),
@@ -204,9 +204,9 @@ impl Search {
         ensures on { OnOk result (
             GoesOn assumed.now self.old.store self.new.store self.old.trail self.new.trail) }
         ensures answer { IfOk result (λ it.
-            IfSome it (IsAnswer self.old.store assumed.now self.new.trail)) }
+            IfSome it (IsSearchAnswer self.old.store assumed.now self.new.trail)) }
         ensures nearer { IfOk result (λ it. IfNone it (
-            IsLonger self.old.store self.new.store self.old.trail.steps self.new.trail.steps)) }
+            IsLaterState self.old.store self.new.store self.old.trail.steps self.new.trail.steps)) }
     {
         let lit = assumed[at];
         if let Value::Unset = self.trail.value(lit) {
@@ -226,9 +226,9 @@ impl Search {
         requires assumed { AreTrue self.old.trail.steps assumed.now }
         ensures ready { IsReady self.new.store self.new.trail self.new.watches }
         ensures on { GoesOn assumed.now self.old.store self.new.store self.old.trail self.new.trail }
-        ensures answer { IfSome result (IsAnswer self.old.store assumed.now self.new.trail) }
+        ensures answer { IfSome result (IsSearchAnswer self.old.store assumed.now self.new.trail) }
         ensures nearer { IfNone result (
-            IsLonger self.old.store self.new.store self.old.trail.steps self.new.trail.steps) }
+            IsLaterState self.old.store self.new.store self.old.trail.steps self.new.trail.steps) }
     {
         match least_unset(&self.trail) {
             Some(lit) => {

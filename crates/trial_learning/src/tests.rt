@@ -6,10 +6,10 @@ ghost use Rattle.propagator.specs.Watched.{IsReady};
 ghost use Rattle.trial_learning.specs.Search.{IsReadyOver};
 ghost use Rattle.clause_store.specs.Clause.{IsOver};
 
-use crate::every::is_right;
+use crate::all_assignments::is_right;
 use crate::random::{Draws, clause_of, lits_of, random_clause, random_lits};
 use crate::search::{Answer, Search};
-use crate::units::are_confirmed;
+use crate::unit_checks::are_confirmed;
 use clause_store::{Lit, NoMemory};
 use conflict_learning::Learned;
 use std::alloc::Global;

@@ -3,6 +3,6 @@
 #![tactic(auto)]
 
 #[cfg(test)]
-mod second;
+mod second_reader;
 #[cfg(test)]
 mod tests;

@@ -1,4 +1,4 @@
-use crate::second::{Outcome, second_reading};
+use crate::second_reader::{Outcome, second_reading};
 use byte_edges::SteadySink;
 use lparse_reader::{ReadError, parse, print_program};
 use std::alloc::{AllocError, Global};

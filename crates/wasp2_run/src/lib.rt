@@ -1,10 +1,10 @@
 //! One run of the program: words and a source in, a report and a status out.
 #![tactic(auto)]
 
-mod answering;
-mod refusing;
+mod one_set_lines;
+mod program_answer;
+mod refusal_line;
 mod running;
-mod settling;
 
 pub use running::{Ended, run};
 

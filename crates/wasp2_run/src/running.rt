@@ -4,8 +4,8 @@ ghost use Rattle.byte_edges.specs.Faults.{Rose};
 ghost use Rattle.wasp2_run.specs.Run.{IsQuery, IsAllowed, IsRefusalOf, Ran, why_of};
 ghost use Rattle.wasp2_run.specs.Ending.{Ends};
 
-use crate::answering::answer;
-use crate::refusing::{refuse, tell_no_memory};
+use crate::program_answer::answer;
+use crate::refusal_line::{refuse, tell_no_memory};
 use byte_edges::{Sink, Source, WriteFault};
 use lparse_reader::{ReadError, TextFault, read_program};
 use report::Why;
@@ -37,14 +37,14 @@ pub fn run<S: Source, K: Sink>(
     ensures all_read { (result.status ≡ 0) ⊎ (result.status ≡ 2) → IfSome (S.left source.old) (λ _. S.left source.new ≡ Some []) }
     ensures unread { result.status ≡ 4 → source.new ≡ source.old }
 {
-    match write_run(alloc, words, source, sink) {
+    match run_whole(alloc, words, source, sink) {
         Ok(status) => Ended { status },
         Err(_) => Ended { status: 6 },
     }
 }
 
 // Writes what there is to write, and gives the status.
-fn write_run<S: Source, K: Sink>(
+fn run_whole<S: Source, K: Sink>(
     alloc: Global,
     words: &[String],
     source: &mut S,

@@ -4,7 +4,7 @@ use std::alloc::{AllocError, Global};
 use std::test::Fail;
 
 // A word, an input, what is written and the status.
-struct Row {
+struct Case {
     word: &'static str,
     input: &'static [u8],
     output: &'static [u8],
@@ -15,63 +15,63 @@ const FACT: &[u8] = b"1 2 0 0\n0\n2 a\n0\nB+\n0\nB-\n1\n0\n1\n";
 
 const FACT_REPORT: &[u8] = b"ANSWER 1 2\nIN 1 0 a\nPAIR 1 1\nCOMPLETE\n";
 
-const ROWS: [Row; 10] = [
-    Row {
+const ROWS: [Case; 10] = [
+    Case {
         word: "cautious",
         input: b"0\n0\nB+\n0\nB-\n0\n1\n",
         output: b"ANSWER 1\nPAIR 0 0\nCOMPLETE\n",
         status: 0,
     },
-    Row {
+    Case {
         word: "cautious",
         input: FACT,
         output: FACT_REPORT,
         status: 0,
     },
     // Two atoms that support only each other are both false.
-    Row {
+    Case {
         word: "cautious",
         input: b"1 2 1 0 3\n1 3 1 0 2\n0\n2 a\n3 b\n0\nB+\n0\nB-\n1\n0\n1\n",
         output: b"ANSWER 1\nOUT 1 1 a\nOUT 2 1 b\nPAIR 0 0\nCOMPLETE\n",
         status: 0,
     },
-    Row {
+    Case {
         word: "cautious",
         input: b"1 3 1 0 2\n1 2 0 0\n0\n2 a\n3 b\n4 c\n0\nB+\n3\n0\nB-\n1\n0\n1\n",
         output: b"ANSWER 1 2 3\nIN 1 0 a\nIN 2 0 b\nOUT 3 1 c\nPAIR 2 2\nCOMPLETE\n",
         status: 0,
     },
-    Row {
+    Case {
         word: "cautious",
         input: b"0\n0\nB+\n2\n0\nB-\n0\n1\n",
         output: b"INCOHERENT\n",
         status: 2,
     },
-    Row {
+    Case {
         word: "careful",
         input: FACT,
         output: b"REFUSED 0 Words 0\n",
         status: 4,
     },
-    Row {
+    Case {
         word: "cautious",
         input: b"1 2 1 1 2\n0\n2 a\n0\nB+\n0\nB-\n1\n0\n1\n",
         output: b"REFUSED 0 NotYet 1\n",
         status: 3,
     },
-    Row {
+    Case {
         word: "cautious",
         input: b"0\n65536 a\n0\nB+\n0\nB-\n0\n1\n",
         output: b"REFUSED 0 NotYet 0\n",
         status: 3,
     },
-    Row {
+    Case {
         word: "cautious",
         input: b"1 2 3 1 3",
         output: b"REFUSED 1 EndOfInput 9\n",
         status: 3,
     },
-    Row {
+    Case {
         word: "cautious",
         input: b"0\n0\nB+\n0\nB-\n0\nE\n",
         output: b"REFUSED 7 ExternalSection 69\n",
@@ -85,7 +85,7 @@ fn words_of(alloc: Global, word: &str) -> Result<Vec<String>, AllocError> {
     Ok(words)
 }
 
-fn ends_as(alloc: Global, row: &Row) -> Result<bool, AllocError> {
+fn ends_as(alloc: Global, row: &Case) -> Result<bool, AllocError> {
     let words = words_of(alloc, row.word)?;
     let mut source = SteadySource::open(Vec::from_slice(alloc, row.input)?);
     let mut sink = SteadySink::open(alloc, 4096)?;

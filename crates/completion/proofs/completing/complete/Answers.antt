@@ -6,16 +6,16 @@ use Rattle.completion.proofs.EntailedLemmas.{base_clauses-entailed}
 use Rattle.completion.proofs.ModelLemmas.{base_clauses-make_models}
 use Rattle.completion.proofs.completing.complete.Goals as goal
 
-pub add_all-requires : goal.add_all-requires
-add_all-requires c = IsNormal-in_range c.args.normal.now c.requires
+pub complete_whole-requires : goal.complete_whole-requires
+complete_whole-requires c = IsNormal-in_range c.args.normal.now c.requires
 
 pub returns-clause-over : goal.returns-clause-over
 returns-clause-over c = base_clauses-over c.args.normal.now c.requires
 
 pub returns-clause-trails : goal.returns-clause-trails
 returns-clause-trails c =
-    gain_keeps_trails c.add_all.result c.args.store.now c.add_all.new.store (base_clauses c.args.normal.now)
-    c.add_all.ensures.ok c.add_all.ensures.err
+    gain_keeps_trails c.complete_whole.result c.args.store.now c.complete_whole.new.store (base_clauses c.args.normal.now)
+    c.complete_whole.ensures.ok c.complete_whole.ensures.err
 
 pub returns-clause-entailed : goal.returns-clause-entailed
 returns-clause-entailed c = base_clauses-entailed c.args.normal.now c.requires

@@ -1,7 +1,7 @@
 use Rattle.std.proofs.Common.{subst, arith}
 use Rattle.trial_learning.proofs.TurnLemmas.{fewer_turns, without_answer}
 use Rattle.std.specs.Prelude.{IfSome}
-use Rattle.trial_learning.specs.Search.{IsAnswer}
+use Rattle.trial_learning.specs.Search.{IsSearchAnswer}
 use Rattle.trial_learning.proofs.GoingLemmas.{first_at_start, goes_on}
 use Rattle.trial_learning.proofs.SettledLemmas.{settled_at_start}
 use Rattle.trial_learning.proofs.AnswerLemmas.{answer_before}
@@ -28,7 +28,7 @@ turns-preserved c = record {
 pub returns-in-Some-clause-answer : goal.returns-in-Some-clause-answer
 returns-in-Some-clause-answer c =
     answer_before c.args.self.now.store c.turns.self.store c.args.assumed.now c.turn.new.self.trail c.in-Some.answer c.turns.invariant.on.same
-    (subst (λ found. IfSome found (IsAnswer c.turns.self.store c.args.assumed.now c.turn.new.self.trail)) c.in-Some.is c.in_ok-answer.ensures.answer)
+    (subst (λ found. IfSome found (IsSearchAnswer c.turns.self.store c.args.assumed.now c.turn.new.self.trail)) c.in-Some.is c.in_ok-answer.ensures.answer)
 
 pub returns-in-Some-clause-units : goal.returns-in-Some-clause-units
 returns-in-Some-clause-units c =

@@ -1,0 +1,86 @@
+// The support of atoms: where an atom is true, the body of some rule for it is.
+ghost use Rattle.std.specs.Prelude.{◌≡◌, ◌≤◌, ◌<◌, ◌+◌, [], ◌∷◌, ◌++◌, ℕ, List, length, map, replicate, slice_set, slice_index_or, All, IfOk, OnOk, OnErr};
+ghost use Rattle.clause_store.specs.Clause.{variable};
+ghost use Rattle.normal_program.specs.Clauses.{positive, negative, support_clause, atoms_of_normal, cleaned};
+ghost use Rattle.normal_program.specs.Range.{IsInRange};
+ghost use Rattle.completion.specs.Filling.{Gains, GainsFirst, IsVar};
+ghost use Rattle.completion.specs.Rows.{rows_of, AreSupports, NotesAll};
+
+use crate::clean_clauses::add_clause;
+use clause_store::{Lit, NoMemory, Store, Var};
+use normal_program::{Normal, NormalRule};
+use std::alloc::Global;
+
+/// Adds the support clause of each atom.
+pub fn add_supports(alloc: Global, normal: &Normal, store: &mut Store) -> Result<(), NoMemory>
+    requires { IsInRange normal.now }
+    ensures ok { OnOk result (Gains store.old store.new
+        (cleaned (map (support_clause normal.now) (atoms_of_normal normal.now)))) }
+    ensures err { OnErr result (GainsFirst store.old store.new
+        (cleaned (map (support_clause normal.now) (atoms_of_normal normal.now)))) }
+{
+    let rows = gather(alloc, normal)?;
+    for atom in 1..normal.atoms + 1 {
+        add_support(alloc, store, atom, rows[atom as usize].as_slice())?;
+    }
+    Ok(())
+}
+
+// The clause of an atom and the bodies of its rules.
+fn add_support(alloc: Global, store: &mut Store, atom: u32, bodies: &[Lit]) -> Result<(), NoMemory>
+    requires atom { IsVar atom }
+    requires bodies { All (λ lit. 1 ≤ variable lit) bodies.now }
+    ensures ok { OnOk result (Gains store.old store.new (cleaned ((negative atom ∷ bodies.now) ∷ []))) }
+    ensures err { OnErr result (store.new ≡ store.old) }
+{
+    let mut clause = Vec::new(alloc);
+    clause.push(Var(atom).negative())?;
+    clause.extend_from_slice(bodies)?;
+    add_clause(alloc, store, clause.as_slice())
+}
+
+// For each atom the bodies of its rules, in the order of the rules.
+fn gather(alloc: Global, normal: &Normal) -> Result<Vec<Vec<Lit>>, NoMemory>
+    requires { IsInRange normal.now }
+    ensures { IfOk result (λ rows. AreSupports normal.now normal.now.rules (rows_of rows)) }
+{
+    let mut rows = empty_rows(alloc, normal.atoms)?;
+    for rule in normal.rules.as_slice() {
+        let var = Var(normal.atoms + 1 + rule.body);
+        note(&mut rows, rule, var.positive())?;
+    }
+    Ok(rows)
+}
+
+// An empty row for each atom and for 0.
+fn empty_rows(alloc: Global, atoms: u32) -> Result<Vec<Vec<Lit>>, NoMemory>
+    ensures { IfOk result (λ rows. rows_of rows ≡ replicate (atoms + 1) []) }
+{
+    let mut rows = Vec::new(alloc);
+    rows.push(Vec::new(alloc))?;
+    for _ in 0..atoms {
+        rows.push(Vec::new(alloc))?;
+    }
+    Ok(rows)
+}
+
+// Puts a literal into the rows of all heads of a rule.
+fn note(rows: &mut Vec<Vec<Lit>>, rule: &NormalRule, body: Lit) -> Result<(), NoMemory>
+    requires { All (λ head. head < length (rows_of rows.old)) rule.now.heads }
+    ensures { OnOk result (NotesAll rule.now.heads body (rows_of rows.old) (rows_of rows.new)) }
+{
+    for head in rule.heads.as_slice() {
+        push_at(rows, *head as usize, body)?;
+    }
+    Ok(())
+}
+
+// Puts a literal last into one row.
+fn push_at(rows: &mut Vec<Vec<Lit>>, at: usize, lit: Lit) -> Result<(), NoMemory>
+    requires { at < length (rows_of rows.old) }
+    ensures { OnOk result (rows_of rows.new
+        ≡ slice_set (rows_of rows.old) at (slice_index_or (rows_of rows.old) at [] ++ lit ∷ [])) }
+{
+    rows[at].push(lit)?;
+    Ok(())
+}

@@ -1,8 +1,0 @@
-use Rattle.conflict_learning.proofs.RefusalLemmas.{IsBlanking}
-use Rattle.conflict_learning.proofs.refusal.add_blanks.Given as goal
-
-abbrev pub invariant-loop-low : goal.invariant-loop-low
-invariant-loop-low l = IsBlanking l.trail.steps l.last l.initial.core l.core l.low
-
-abbrev pub decreases-loop-low : goal.decreases-loop-low
-decreases-loop-low l = l.low
