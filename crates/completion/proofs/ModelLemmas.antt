@@ -19,7 +19,8 @@ use Rattle.normal_program.specs.Limit.{IsNormal}
 use Rattle.normal_program.specs.Loop.{IsAtomOf}
 use Rattle.normal_program.specs.Range.{IsInRange}
 use Rattle.normal_program.proofs.RangeLemmas.{IsNormal-in_range}
-use Rattle.completion.specs.Completion.{IsTotal, set_of, MeansWeightBodies, IsModelOf, MakeModels}
+use Rattle.completion.specs.Completion.{MakeModels}
+use Rattle.normal_program.specs.Models.{IsAssignmentOf, set_of, MeansWeightBodies, IsModelOf}
 use Rattle.completion.proofs.TruthLemmas.{makes_true-positive, makes_true-negative, HoldsIn-cases}
 use Rattle.completion.proofs.CleanLemmas.{flat_has, hold_from_cleaned}
 use Rattle.completion.proofs.BodyLemmas.{holds-all, all-holds, all_clauses-forth, all_clauses-back}
@@ -44,7 +45,7 @@ same_truth false false forth back = refl
 alone_true : (values : List Bool) (lit : Lit) → HoldsIn values (alone lit) → makes_true values lit ≡ true
 alone_true values lit holds = ⊎_elim (λ on. on) (λ none. absurd (omega (arith, none.2))) (HoldsIn-cases values lit [] holds)
 
-module _ (normal : Normal) (in_range : IsInRange normal) (values : List Bool) (total : IsTotal normal values) (meets : Meets values (base_clauses normal)) (weights : MeansWeightBodies normal values) where
+module _ (normal : Normal) (in_range : IsInRange normal) (values : List Bool) (total : IsAssignmentOf normal values) (meets : Meets values (base_clauses normal)) (weights : MeansWeightBodies normal values) where
   set_length : length (set_of normal values) ≡ normal.atoms + 1
   set_length = length-take-le (normal.atoms + 1) values (omega (arith, total.variables))
 

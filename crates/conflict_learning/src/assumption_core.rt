@@ -7,7 +7,7 @@ ghost use Rattle.clause_store.specs.Clause.{variable, IsOver};
 ghost use Rattle.clause_store.specs.Standing.{IsFalse};
 ghost use Rattle.clause_store.specs.Trail.{IsTrailOf, level_of, place_of};
 ghost use Rattle.conflict_learning.specs.AssumptionCore.{IsCore, CannotMeet};
-ghost use Rattle.conflict_learning.specs.Cells.{AddsDecisions, AddsBlanks, AreCells, is_blank, IsMarkable, Marks, MarksAll, Explains, ExplainsAll};
+ghost use Rattle.conflict_learning.specs.Cells.{AddsDecisions, AddsBlanks, AreCells, is_blank, IsMarkable, MarksCell, MarksAll, Explains, ExplainsAll};
 
 use clause_store::{Clause, Lit, NoMemory, Store, Trail};
 use std::alloc::Global;
@@ -126,7 +126,7 @@ fn mark_all(trail: &Trail, last: usize, lits: &[Lit], core: &mut Clause)
 fn mark(trail: &Trail, last: usize, lit: Lit, core: &mut Clause)
     requires within { last < length trail.now.steps }
     requires markable { IsMarkable trail.now last lit }
-    ensures { Marks trail.now.steps last lit core.old core.new }
+    ensures { MarksCell trail.now.steps last lit core.old core.new }
 {
     let steps = trail.steps();
     if let Some(place) = trail.place_of(lit.var()) {

@@ -5,3 +5,4 @@ pub mod Loop
 pub mod Spent
 pub mod Limit
 pub mod Range
+pub mod Models
