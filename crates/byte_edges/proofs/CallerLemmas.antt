@@ -1,7 +1,9 @@
 -- What callers need of the words on sources and sinks: writes in turn make one write.
-use Rattle.std.proofs.Common.{◌<◌, drop, get_or, ◌≡◌, ◌≤◌, ◌+◌, ◌++◌, ℕ, List, [], Option, Some, None, Ok, Err, length, take, min, sym, ◌∙◌, ap, arith, append_assoc}
+use Rattle.std.proofs.Common.{◌<◌, drop, get_or, ◌≡◌, ◌≤◌, ◌+◌, ◌++◌, ℕ, List, [], Option, Some}
+use Rattle.std.proofs.Common.{None, Ok, Err, length, take, min, sym, ◌∙◌, ap, arith, append_assoc}
 use Rattle.std.specs.Prelude.{Result, IsErr}
-use Rattle.std.proofs.lemmas.List.{take_more, take-append-drop, append-nil, take-append-le, take_min}
+use Rattle.std.proofs.lemmas.List.{take_more, take-append-drop, append-nil, take-append-le}
+use Rattle.std.proofs.lemmas.List.{take_min}
 use Rattle.std.proofs.Math.Seq.{take-append-add}
 use Rattle.std.proofs.lemmas.Result.{on_ok_weaker, on_err_weaker}
 use Rattle.std.specs.List.{flat_map}
@@ -23,30 +25,38 @@ appended_none None = record { told = tt }
 appended_none (Some before) = record { told = sym (append-nil before) }
 
 -- bytes that were appended in turn were appended as one list
-pub appended_then : (old mid new : Option (List ℕ)) (first second : List ℕ) → Appended old mid first → Appended mid new second → Appended old new (first ++ second)
+pub appended_then : (old mid new : Option (List ℕ)) (first second : List ℕ) → Appended old mid first
+    → Appended mid new second → Appended old new (first ++ second)
 appended_then old mid None first second one two = record { told = tt }
 appended_then old None (Some now) first second one two = absurd two.told
 appended_then None (Some between) (Some now) first second one two = absurd one.told
 appended_then (Some before) (Some between) (Some now) first second one two =
-    record { told = two.told ∙ ap (λ bytes. bytes ++ second) one.told ∙ append_assoc before first second }
+    record {
+      told =
+          two.told ∙ ap (λ bytes. bytes ++ second) one.told ∙ append_assoc before first second;
+    }
 
 -- bytes and then a prefix of more are a prefix of both
-pub prefix_then : (old mid new : Option (List ℕ)) (first second : List ℕ) → Appended old mid first → AppendedPrefix mid new second → AppendedPrefix old new (first ++ second)
+pub prefix_then : (old mid new : Option (List ℕ)) (first second : List ℕ) → Appended old mid first
+    → AppendedPrefix mid new second → AppendedPrefix old new (first ++ second)
 prefix_then old mid new first second one two = (
   length first + two.0,
   rw take-append-add (appended_then old mid new first (take two.0 second) one two.1),
 )
 
 -- a prefix of a list's front is a prefix of the list
-pub prefix_longer : (old new : Option (List ℕ)) (front rest : List ℕ) → AppendedPrefix old new front → AppendedPrefix old new (front ++ rest)
+pub prefix_longer : (old new : Option (List ℕ)) (front rest : List ℕ) → AppendedPrefix old new front
+    → AppendedPrefix old new (front ++ rest)
 prefix_longer old new front rest prefix =
     let n : ℕ = min prefix.0 (length front) in
-    let same : take n (front ++ rest) ≡ take prefix.0 front = take-append-le n front rest (omega arith) ∙ take_min prefix.0 front in
+    let same : take n (front ++ rest) ≡ take prefix.0 front =
+    take-append-le n front rest (omega arith) ∙ take_min prefix.0 front in
     (n, rw same prefix.1)
 
 module _ {K : Type 0} {written : K → Option (List ℕ)} {faults : K → ℕ} where
   -- nothing was written
-  pub writes_none : {T E : Type 0} {value : T} (sink : K) → Writes {E = E} written faults sink sink [] (Ok value)
+  pub writes_none : {T E : Type 0} {value : T} (sink : K)
+      → Writes {E = E} written faults sink sink [] (Ok value)
   writes_none sink = record {
     all = appended_none (written sink);
     prefix = (0, appended_none (written sink));
@@ -55,16 +65,27 @@ module _ {K : Type 0} {written : K → Option (List ℕ)} {faults : K → ℕ} w
   }
 
   -- bytes were written, and then others, as far as the second call came
-  pub writes_then : {T U E F : Type 0} {old mid new : K} {first second : List ℕ} {value : T} {result : Result U F} → Writes {E = E} written faults old mid first (Ok value) → Writes written faults mid new second result → Writes written faults old new (first ++ second) result
-  writes_then {old = old} {mid = mid} {new = new} {first = first} {second = second} {result = result} one two = record {
-    all = on_ok_weaker result (appended_then (written old) (written mid) (written new) first second one.all) two.all;
-    prefix = prefix_then (written old) (written mid) (written new) first second one.all two.prefix;
-    cause = on_err_weaker result (rose_earlier (faults old) (faults mid) (faults new) one.count) two.cause;
-    count = omega arith;
-  }
+  pub writes_then : {T U E F : Type 0} {old mid new : K} {first second : List ℕ} {value : T}
+      {result : Result U F} → Writes {E = E} written faults old mid first (Ok value)
+      → Writes written faults mid new second result
+      → Writes written faults old new (first ++ second) result
+  writes_then {old = old} {mid = mid} {new = new} {first = first} {second = second}
+      {result = result} one two = record {
+        all =
+            on_ok_weaker result
+            (appended_then (written old) (written mid) (written new) first second one.all) two.all;
+        prefix =
+            prefix_then (written old) (written mid) (written new) first second one.all two.prefix;
+        cause =
+            on_err_weaker result (rose_earlier (faults old) (faults mid) (faults new) one.count)
+            two.cause;
+        count = omega arith;
+      }
 
   -- after a fault the bytes behind weren't tried
-  pub writes_longer : {T E : Type 0} {old new : K} {front : List ℕ} {error : E} (rest : List ℕ) → Writes {T = T} written faults old new front (Err error) → Writes {T = T} written faults old new (front ++ rest) (Err error)
+  pub writes_longer : {T E : Type 0} {old new : K} {front : List ℕ} {error : E} (rest : List ℕ)
+      → Writes {T = T} written faults old new front (Err error)
+      → Writes {T = T} written faults old new (front ++ rest) (Err error)
   writes_longer {old = old} {new = new} {front = front} rest one = record {
     all = tt;
     prefix = prefix_longer (written old) (written new) front rest one.prefix;
@@ -73,35 +94,51 @@ module _ {K : Type 0} {written : K → Option (List ℕ)} {faults : K → ℕ} w
   }
 
   -- a fault is handed on, as by `?`
-  pub writes_fault : {T U E F : Type 0} {old new : K} {bytes : List ℕ} {error : E} {result : Result U F} → IsErr result → Writes {T = T} written faults old new bytes (Err error) → Writes written faults old new bytes result
+  pub writes_fault : {T U E F : Type 0} {old new : K} {bytes : List ℕ} {error : E}
+      {result : Result U F} → IsErr result → Writes {T = T} written faults old new bytes (Err error)
+      → Writes written faults old new bytes result
   writes_fault {result = Ok value} is_err one = cc
-  writes_fault {result = Err other} is_err one = record { all = tt; prefix = one.prefix; cause = one.cause; count = one.count }
+  writes_fault {result = Err other} is_err one =
+      record { all = tt; prefix = one.prefix; cause = one.cause; count = one.count }
 
   -- the call went well, and its answer doesn't matter
-  pub writes_ok : {T U E F : Type 0} {old new : K} {bytes : List ℕ} {value : T} {other : U} → Writes {E = E} written faults old new bytes (Ok value) → Writes {E = F} written faults old new bytes (Ok other)
+  pub writes_ok : {T U E F : Type 0} {old new : K} {bytes : List ℕ} {value : T} {other : U}
+      → Writes {E = E} written faults old new bytes (Ok value)
+      → Writes {E = F} written faults old new bytes (Ok other)
   writes_ok one = record { all = one.all; prefix = one.prefix; cause = tt; count = one.count }
 
   -- the same bytes, said otherwise
-  pub writes_same : {T E : Type 0} {old new : K} {bytes same : List ℕ} {result : Result T E} → bytes ≡ same → Writes written faults old new bytes result → Writes written faults old new same result
+  pub writes_same : {T E : Type 0} {old new : K} {bytes same : List ℕ} {result : Result T E}
+      → bytes ≡ same → Writes written faults old new bytes result
+      → Writes written faults old new same result
   writes_same equal one = rw (← equal) one
 
 -- the texts of a list's first elements, and of the next
-flat_map-take-more : {X : Type 0} (text : X → List ℕ) (xs : List X) (i : ℕ) (d : X) → i < length xs → flat_map text (take i xs) ++ text (get_or xs i d) ≡ flat_map text (take (i + 1) xs)
+flat_map-take-more : {X : Type 0} (text : X → List ℕ) (xs : List X) (i : ℕ) (d : X) → i < length xs
+    → flat_map text (take i xs) ++ text (get_or xs i d) ≡ flat_map text (take (i + 1) xs)
 flat_map-take-more text xs i d within =
-    rw (take_more xs i d within, flat_map-append) (ap (λ last. flat_map text (take i xs) ++ last) (sym (append-nil (text (get_or xs i d)))))
+    rw (take_more xs i d within, flat_map-append)
+    (ap (λ last. flat_map text (take i xs) ++ last) (sym (append-nil (text (get_or xs i d)))))
 
 -- the texts of a list's first elements, and of the rest
-flat_map-take-drop : {X : Type 0} (text : X → List ℕ) (xs : List X) (i : ℕ) → flat_map text (take i xs) ++ flat_map text (drop i xs) ≡ flat_map text xs
+flat_map-take-drop : {X : Type 0} (text : X → List ℕ) (xs : List X) (i : ℕ)
+    → flat_map text (take i xs) ++ flat_map text (drop i xs) ≡ flat_map text xs
 flat_map-take-drop text xs i =
     sym (flat_map-append text (take i xs) (drop i xs)) ∙ ap (flat_map text) (take-append-drop i xs)
 
 module _ {K : Type 0} {written : K → Option (List ℕ)} {faults : K → ℕ} where
   -- a loop that writes the texts of a list's elements came one element on
-  pub writes_next : {X T U E F : Type 0} {old mid new : K} {value : T} {result : Result U F} (text : X → List ℕ) (xs : List X) (i : ℕ) (d : X) → i < length xs → Writes {E = E} written faults old mid (flat_map text (take i xs)) (Ok value) → Writes written faults mid new (text (get_or xs i d)) result → Writes written faults old new (flat_map text (take (i + 1) xs)) result
+  pub writes_next : {X T U E F : Type 0} {old mid new : K} {value : T} {result : Result U F}
+      (text : X → List ℕ) (xs : List X) (i : ℕ) (d : X) → i < length xs
+      → Writes {E = E} written faults old mid (flat_map text (take i xs)) (Ok value)
+      → Writes written faults mid new (text (get_or xs i d)) result
+      → Writes written faults old new (flat_map text (take (i + 1) xs)) result
   writes_next text xs i d within one two =
       writes_same (flat_map-take-more text xs i d within) (writes_then one two)
 
   -- such a loop stopped at a fault
-  pub writes_stopped : {X T E : Type 0} {old new : K} {error : E} (text : X → List ℕ) (xs : List X) (i : ℕ) → Writes {T = T} written faults old new (flat_map text (take i xs)) (Err error) → Writes {T = T} written faults old new (flat_map text xs) (Err error)
+  pub writes_stopped : {X T E : Type 0} {old new : K} {error : E} (text : X → List ℕ) (xs : List X)
+      (i : ℕ) → Writes {T = T} written faults old new (flat_map text (take i xs)) (Err error)
+      → Writes {T = T} written faults old new (flat_map text xs) (Err error)
   writes_stopped text xs i one =
       writes_same (flat_map-take-drop text xs i) (writes_longer (flat_map text (drop i xs)) one)

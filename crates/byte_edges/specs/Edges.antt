@@ -1,5 +1,7 @@
--- What a read and a write do to the bytes that a source has left and a sink was given, where they tell those.
-use Rattle.std.specs.Prelude.{◌≡◌, ◌≤◌, ◌++◌, ℕ, List, Option, Some, Result, length, take, drop, IfSome, OnOk, OnErr}
+-- What a read and a write do to the bytes that a source has left and a sink was given, where they
+-- tell those.
+use Rattle.std.specs.Prelude.{◌≡◌, ◌≤◌, ◌++◌, ℕ, List, Option, Some, Result, length, take, drop}
+use Rattle.std.specs.Prelude.{IfSome, OnOk, OnErr}
 use Rattle.std.specs.Option.{IsSomeAnd}
 use Rattle.byte_edges.specs.Faults.{Rose}
 
@@ -27,9 +29,11 @@ pub record Appended (old new : Option (List ℕ)) (bytes : List ℕ) : Type 0 wh
 abbrev pub AppendedPrefix : Option (List ℕ) → Option (List ℕ) → List ℕ → Type 0
 AppendedPrefix old new bytes = (n : ℕ) × Appended old new (take n bytes)
 
--- What a call that writes these bytes did to a sink: at Ok it wrote them all, else a prefix of them.
+-- What a call that writes these bytes did to a sink: at Ok it wrote them all, else a prefix of
+-- them.
 -- It fails only where the sink's count of faults rose.
-pub record Writes {K T E : Type 0} (written : K → Option (List ℕ)) (faults : K → ℕ) (old new : K) (bytes : List ℕ) (result : Result T E) : Type 0 where
+pub record Writes {K T E : Type 0} (written : K → Option (List ℕ)) (faults : K → ℕ) (old new : K)
+    (bytes : List ℕ) (result : Result T E) : Type 0 where
   pub all : OnOk result (Appended (written old) (written new) bytes)
   pub prefix : AppendedPrefix (written old) (written new) bytes
   pub cause : OnErr result (Rose (faults old) (faults new))

@@ -1,5 +1,6 @@
 // The two edges of a program: where its bytes come from, and where they go.
-ghost use Rattle.std.specs.Prelude.{◌≡◌, ◌≤◌, ◌<◌, ◌^◌, ℕ, List, [], Option, Some, Ok, length, take, IfSome, IfOk, OnErr, OnOk};
+ghost use Rattle.std.specs.Prelude.{◌≡◌, ◌≤◌, ◌<◌, ◌^◌, ℕ, List, [], Option, Some, Ok, length};
+ghost use Rattle.std.specs.Prelude.{take, IfSome, IfOk, OnErr, OnOk};
 ghost use Rattle.byte_edges.specs.Faults.{Rose};
 ghost use Rattle.byte_edges.specs.Edges.{Moved, Appended};
 
@@ -20,12 +21,15 @@ pub trait Source {
         requires { 0 < length into.old }
 
         ensures within { IfOk result (λ n. n ≤ length into.old) }
-        ensures moved { IfOk result (λ n. IfSome (left self.old) (λ bytes. Moved n bytes (left self.new) into.old into.new)) }
+        ensures moved { IfOk result
+            (λ n. IfSome (left self.old)
+            (λ bytes. Moved n bytes (left self.new) into.old into.new)) }
         ensures end { IfOk result (λ n. n ≡ 0 → IfSome (left self.old) (λ bytes. bytes ≡ [])) }
 
         // A failed read takes nothing.
         ensures cause { OnErr result (Rose (faults self.old) (faults self.new)) }
-        ensures unread { OnErr result (IfSome (left self.old) (λ bytes. left self.new ≡ Some bytes)) }
+        ensures unread { OnErr result
+            (IfSome (left self.old) (λ bytes. left self.new ≡ Some bytes)) }
 
         ensures count { faults self.old ≤ faults self.new }
         ensures limit { faults self.new < 2 ^ 64 };
@@ -45,7 +49,8 @@ pub trait Sink {
 
         ensures some { IfOk result (λ n. 1 ≤ n) }
         ensures within { IfOk result (λ n. n ≤ length bytes.now) }
-        ensures appended { IfOk result (λ n. Appended (written self.old) (written self.new) (take n bytes.now)) }
+        ensures appended { IfOk result
+            (λ n. Appended (written self.old) (written self.new) (take n bytes.now)) }
 
         // A failed write adds nothing.
         ensures cause { OnErr result (Rose (faults self.old) (faults self.new)) }

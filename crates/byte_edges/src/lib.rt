@@ -1,4 +1,5 @@
-//! Sources and sinks of bytes: what they have left or were given, where they tell it, and how often they failed.
+//! Sources and sinks of bytes: what they have left or were given, where they tell it, and how often
+//! they failed.
 #![tactic(auto)]
 
 mod edges;

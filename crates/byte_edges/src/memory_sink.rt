@@ -1,5 +1,7 @@
-// A sink in memory that takes few bytes a call, has little room and fails at the calls that it is told.
-ghost use Rattle.std.specs.Prelude.{◌≡◌, ◌≤◌, ◌<◌, ◌^◌, ◌↔◌, [], Some, length, take, IfOk, OnErr, IsErr};
+// A sink in memory that takes few bytes a call, has little room and fails at the calls that it is
+// told.
+ghost use Rattle.std.specs.Prelude.{◌≡◌, ◌≤◌, ◌<◌, ◌^◌, ◌↔◌, [], Some, length, take, IfOk, OnErr};
+ghost use Rattle.std.specs.Prelude.{IsErr};
 ghost use Rattle.byte_edges.specs.Faults.{Rose};
 ghost use Rattle.byte_edges.specs.Edges.{Appended};
 ghost use Rattle.byte_edges.specs.Memory.{SinkState, RefusesWrite, write_count, after_write};
@@ -48,7 +50,17 @@ impl MemorySink {
         fails: Vec<u64>,
     ) -> Result<MemorySink, NoMemory>
         requires { 1 ≤ most }
-        ensures { IfOk result (λ sink. sink ≡ record { written = []; room = room; most = most; fails = fails.items; calls = 0; faults = 0 }) }
+        ensures { IfOk result
+            (λ sink. sink
+            ≡ record {
+              written = [];
+              room = room;
+              most = most;
+              fails = fails.items;
+              calls =
+                  0;
+              faults = 0;
+            }) }
     {
         let kept = Vec::with_capacity(alloc, room)?;
         let schedule = Schedule {
@@ -82,7 +94,8 @@ impl Sink for MemorySink {
 
         ensures some { IfOk result (λ n. 1 ≤ n) }
         ensures within { IfOk result (λ n. n ≤ length bytes.now) }
-        ensures appended { IfOk result (λ n. Appended (Some self.old.written) (Some self.new.written) (take n bytes.now)) }
+        ensures appended { IfOk result
+            (λ n. Appended (Some self.old.written) (Some self.new.written) (take n bytes.now)) }
         ensures cause { OnErr result (Rose self.old.faults self.new.faults) }
         ensures unwritten { OnErr result (self.new.written ≡ self.old.written) }
         ensures count { self.old.faults ≤ self.new.faults }

@@ -40,7 +40,15 @@ impl MemorySource {
     /// counted from 1, stand in `fails` fail.
     pub fn open(bytes: Vec<u8>, most: usize, fails: Vec<u64>) -> MemorySource
         requires { 1 ≤ most }
-        ensures { result ≡ record { left = bytes.items; most = most; fails = fails.items; calls = 0; faults = 0 } }
+        ensures { result
+            ≡ record {
+              left = bytes.items;
+              most = most;
+              fails = fails.items;
+              calls = 0;
+              faults =
+                  0;
+            } }
     {
         let schedule = Schedule {
             fails,
@@ -65,7 +73,8 @@ impl Source for MemorySource {
         requires { 0 < length into.old }
 
         ensures within { IfOk result (λ n. n ≤ length into.old) }
-        ensures moved { IfOk result (λ n. Moved n self.old.left (Some self.new.left) into.old into.new) }
+        ensures moved { IfOk result
+            (λ n. Moved n self.old.left (Some self.new.left) into.old into.new) }
         ensures end { IfOk result (λ n. n ≡ 0 → self.old.left ≡ []) }
         ensures cause { OnErr result (Rose self.old.faults self.new.faults) }
         ensures unread { OnErr result (self.new.left ≡ self.old.left) }

@@ -1,5 +1,6 @@
 // Moving pieces of bytes in memory.
-ghost use Rattle.std.specs.Prelude.{◌≡◌, ◌≤◌, ◌+◌, ◌++◌, length, take, drop, min, vec_len, vec_capacity};
+ghost use Rattle.std.specs.Prelude.{◌≡◌, ◌≤◌, ◌+◌, ◌++◌, length, take, drop, min, vec_len};
+ghost use Rattle.std.specs.Prelude.{vec_capacity};
 
 /// Copies the front of `left` to the front of `into`, and says how many bytes that were.
 pub fn move_front(left: &[u8], into: &mut [u8], most: usize) -> usize

@@ -1,5 +1,6 @@
 // Reading a source to its end.
-ghost use Rattle.std.specs.Prelude.{◌≡◌, ◌≤◌, ◌<◌, ◌+◌, ◌-◌, ℕ, [], Some, length, drop, IfSome, IfOk, OnOk, IsErrOf, vec_len};
+ghost use Rattle.std.specs.Prelude.{◌≡◌, ◌≤◌, ◌<◌, ◌+◌, ◌-◌, ℕ, [], Some, length, drop, IfSome};
+ghost use Rattle.std.specs.Prelude.{IfOk, OnOk, IsErrOf, vec_len};
 ghost use Rattle.byte_edges.specs.Faults.{Rose};
 ghost use Rattle.byte_edges.specs.Edges.{TookUpTo, CameBehind};
 ghost use Rattle.byte_edges.specs.declared.reading.InputError.TheVariants.{ReadFault, NoMemory};
@@ -47,7 +48,8 @@ pub fn read_all<S: Source>(alloc: Global, source: &mut S, limit: u64) -> Result<
     ensures within { IfOk result (λ bytes. length bytes.items ≤ limit) }
     ensures end { OnOk result (IfSome (S.left source.old) (λ _. S.left source.new ≡ Some [])) }
 
-    ensures read_fault { IsErrOf result InputError.ReadFault → Rose (S.faults source.old) (S.faults source.new) }
+    ensures read_fault { IsErrOf result InputError.ReadFault
+        → Rose (S.faults source.old) (S.faults source.new) }
 
     // The limit was taken and one byte more.
     ensures too_long { IsErrOf result InputError.TooLong → IfSome (S.left source.old)
@@ -86,13 +88,17 @@ fn read_some<S: Source>(
 
     ensures grown { IfOk result (λ n. length bytes.new.items ≡ length bytes.old.items + n) }
     ensures within { IfOk result (λ n. length bytes.new.items ≤ limit + 1) }
-    ensures came { IfOk result (λ n. IfSome (S.left source.old) (CameBehind n (S.left source.new) bytes.old.items bytes.new.items)) }
+    ensures came { IfOk result
+        (λ n. IfSome (S.left source.old)
+        (CameBehind n (S.left source.new) bytes.old.items bytes.new.items)) }
     ensures end { IfOk result (λ n. n ≡ 0 → IfSome (S.left source.old) (λ left. left ≡ [])) }
 
-    ensures read_fault { IsErrOf result InputError.ReadFault → Rose (S.faults source.old) (S.faults source.new) }
+    ensures read_fault { IsErrOf result InputError.ReadFault
+        → Rose (S.faults source.old) (S.faults source.new) }
     ensures not_long { IsErrOf result InputError.TooLong → ⊥ }
 
-    ensures taken { IfSome (S.left source.old) (TookUpTo (limit + 1 - length bytes.old.items) (S.left source.new)) }
+    ensures taken { IfSome (S.left source.old)
+        (TookUpTo (limit + 1 - length bytes.old.items) (S.left source.new)) }
     ensures count { S.faults source.old ≤ S.faults source.new }
 {
     let room = (limit - bytes.len() as u64).saturating_add(1);

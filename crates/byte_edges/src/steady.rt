@@ -1,5 +1,6 @@
 // A source and a sink that never fail.
-ghost use Rattle.std.specs.Prelude.{◌≡◌, ◌≤◌, ◌<◌, ◌+◌, ◌++◌, List, ℕ, [], Some, Ok, Bool, true, false, length, min, drop, IfOk};
+ghost use Rattle.std.specs.Prelude.{◌≡◌, ◌≤◌, ◌<◌, ◌+◌, ◌++◌, List, ℕ, [], Some, Ok, Bool, true};
+ghost use Rattle.std.specs.Prelude.{false, length, min, drop, IfOk};
 ghost use Rattle.byte_edges.specs.Edges.{Moved, Appended};
 ghost use Rattle.byte_edges.specs.Memory.{SteadyState, told_by, after_steady_write};
 
@@ -61,15 +62,18 @@ impl Model for SteadySink {
 
     ghost Value = { SteadyState };
 
-    ghost view = { λ sink. record { kept = sink.kept.items; room = sink.room; overflowed = sink.overflowed } };
+    ghost view = { λ sink.
+        record { kept = sink.kept.items; room = sink.room; overflowed = sink.overflowed } };
 
-    ghost invariant = { λ sink. (vec_len sink.kept ≤ sink.room) × (sink.room ≤ vec_capacity sink.kept) };
+    ghost invariant = { λ sink. (vec_len sink.kept ≤ sink.room)
+        × (sink.room ≤ vec_capacity sink.kept) };
 }
 
 impl SteadySink {
     /// An empty sink with room for so many bytes.
     pub fn open(alloc: Global, room: usize) -> Result<SteadySink, NoMemory>
-        ensures { IfOk result (λ sink. sink ≡ record { kept = []; room = room; overflowed = false }) }
+        ensures { IfOk result
+            (λ sink. sink ≡ record { kept = []; room = room; overflowed = false }) }
     {
         let kept = Vec::with_capacity(alloc, room)?;
         Ok(SteadySink {

@@ -15,7 +15,8 @@ fn write_three<K: Sink>(
     third: &[u8],
     sink: &mut K,
 ) -> Result<(), WriteFault>
-    ensures { Writes K.written K.faults sink.old sink.new (first.now ++ second.now ++ third.now) result }
+    ensures { Writes K.written K.faults sink.old sink.new (first.now ++ second.now ++ third.now)
+        result }
 {
     write_bytes(first, sink)?;
     write_bytes(second, sink)?;

@@ -1,5 +1,6 @@
 -- How a trail keeps its answers in arrays. No public clause cites this module.
-use Rattle.std.specs.Prelude.{◌≡◌, ◌<◌, ◌≤◌, ◌+◌, ◌*◌, ◌^◌, ◌++◌, ◌∷◌, [], ℕ, List, length, slice_index_or, Option}
+use Rattle.std.specs.Prelude.{◌≡◌, ◌<◌, ◌≤◌, ◌+◌, ◌*◌, ◌^◌, ◌++◌, ◌∷◌, [], ℕ, List, length}
+use Rattle.std.specs.Prelude.{slice_index_or, Option}
 use Rattle.clause_store.specs.declared.literal.Value.{Value}
 use Rattle.clause_store.specs.declared.step.Step.{Step}
 use Rattle.clause_store.specs.Trail.{IsTrail, place_of, value_of, present_level}
@@ -10,12 +11,15 @@ pub record IsTable {X : Type 0} (answer : ℕ → X) (size : ℕ) (table : List 
   pub answers : (k : ℕ) (d : X) → k < size → slice_index_or table k d ≡ answer k
 
 -- the arrays hold the place of each variable's assignment and the value of each literal
-pub record AreAnswers (vars : ℕ) (steps : List Step) (variables : List (Option ℕ)) (literals : List Value) : Type 0 where
+pub record AreAnswers (vars : ℕ) (steps : List Step) (variables : List (Option ℕ))
+    (literals : List Value) : Type 0 where
   pub places : IsTable (place_of steps) (vars + 1) variables
   pub values : IsTable (λ code. value_of steps (record { 0 = code })) (2 * vars + 2) literals
 
--- what is true of the fields of a trail; the vector of the steps counts `count` and has room for `room`
-pub record IsKept (vars : ℕ) (steps : List Step) (count room : ℕ) (places : List (Option ℕ)) (values : List Value) : Type 0 where
+-- what is true of the fields of a trail; the vector of the steps counts `count` and has room for
+-- `room`
+pub record IsKept (vars : ℕ) (steps : List Step) (count room : ℕ) (places : List (Option ℕ))
+    (values : List Value) : Type 0 where
   pub few : vars < 2 ^ 31
   pub trail : IsTrail (record { vars = vars; steps = steps })
   pub counted : count ≡ length steps

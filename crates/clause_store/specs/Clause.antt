@@ -1,6 +1,9 @@
--- Literals and clauses, and when an assignment makes them true. An assignment has a truth value for each
+-- Literals and clauses, and when an assignment makes them true. An assignment has a truth value for
+-- each
 -- variable; the one at place 0 belongs to no variable, and past its end everything is false.
-use Rattle.std.specs.Prelude.{◌≢◌, ◌≤◌, ◌+◌, ◌-◌, ◌/◌, ◌%◌, ◌==◌, ℕ, Bool, false, not, if◌then◌else◌, List, All, AllPairs, Any, Contains, slice_index_or, IsTrue}
+use Rattle.std.specs.Prelude.{◌≢◌, ◌≤◌, ◌+◌, ◌-◌, ◌/◌, ◌%◌, ◌==◌, ℕ, Bool, false, not}
+use Rattle.std.specs.Prelude.{if◌then◌else◌, List, All, AllPairs, Any, Contains, slice_index_or}
+use Rattle.std.specs.Prelude.{IsTrue}
 use Rattle.clause_store.specs.declared.literal.Lit.{Lit}
 
 -- the variable of a literal
@@ -21,7 +24,8 @@ truth values var = slice_index_or values var false
 
 -- whether a literal is true
 abbrev pub makes_true : List Bool → Lit → Bool
-makes_true values lit = if is_negated lit then not (truth values (variable lit)) else truth values (variable lit)
+makes_true values lit =
+    if is_negated lit then not (truth values (variable lit)) else truth values (variable lit)
 
 -- the assignment makes a literal true
 abbrev pub IsTrueIn : List Bool → Lit → Type 0

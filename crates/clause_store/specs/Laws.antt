@@ -1,11 +1,14 @@
 -- Laws of the words of this crate. Each is a clause of a function in src/laws.rt.
-use Rattle.std.specs.Prelude.{◌≡◌, ◌≢◌, ◌≤◌, ◌++◌, ℕ, Bool, List, [], ◌∷◌, All, AllPairs, Contains, IsSomeAnd, IsTrue, ◌↔◌}
+use Rattle.std.specs.Prelude.{◌≡◌, ◌≢◌, ◌≤◌, ◌++◌, ℕ, Bool, List, [], ◌∷◌, All, AllPairs, Contains}
+use Rattle.std.specs.Prelude.{IsSomeAnd, IsTrue, ◌↔◌}
 use Rattle.clause_store.specs.declared.literal.Lit.{Lit}
 use Rattle.clause_store.specs.declared.literal.Value.TheVariants.{Yes, Unset}
 use Rattle.clause_store.specs.declared.step.Step.{Step}
 use Rattle.clause_store.specs.Clause.{variable, makes_true, IsTrueIn, Meets, HasAll, IsOver}
-use Rattle.clause_store.specs.Entailment.{Follows, InClosure, Refutes, Absorbs, AreUnits, IsUnit, negations}
-use Rattle.clause_store.specs.Trail.{Assigned, IsTrail, IsTotal, KeepsTrails, value_of, level_of, up_to, values_of}
+use Rattle.clause_store.specs.Entailment.{Follows, InClosure, Refutes, Absorbs, AreUnits, IsUnit}
+use Rattle.clause_store.specs.Entailment.{negations}
+use Rattle.clause_store.specs.Trail.{Assigned, IsTrail, IsTotal, KeepsTrails, value_of, level_of}
+use Rattle.clause_store.specs.Trail.{up_to, values_of}
 
 -- more clauses and more literals: each of one list is in the other
 abbrev pub AreMoreClauses : List (List Lit) → List (List Lit) → Type 0
@@ -14,13 +17,15 @@ AreMoreClauses fewer more = All (Contains more) fewer
 -- the closure only grows with the clauses and with the literals
 abbrev pub ClosureGrows : Type 0
 ClosureGrows =
-    (fewer more : List (List Lit)) (few many : List Lit) (lit : Lit) → AreMoreClauses fewer more → HasAll many few
+    (fewer more : List (List Lit)) (few many : List Lit) (lit : Lit) → AreMoreClauses fewer more
+    → HasAll many few
     → InClosure fewer few lit → InClosure more many lit
 
 -- so what is refuted stays refuted
 abbrev pub RefutingGrows : Type 0
 RefutingGrows =
-    (fewer more : List (List Lit)) (few many : List Lit) → AreMoreClauses fewer more → HasAll many few
+    (fewer more : List (List Lit)) (few many : List Lit) → AreMoreClauses fewer more
+    → HasAll many few
     → Refutes fewer few → Refutes more many
 
 -- and what is absorbed stays absorbed
@@ -32,7 +37,8 @@ AbsorbingGrows =
 -- a clause that has all literals of one of the clauses is absorbed by them
 abbrev pub ContainingIsAbsorbed : Type 0
 ContainingIsAbsorbed =
-    (clauses : List (List Lit)) (clause part : List Lit) → Contains clauses part → HasAll clause part
+    (clauses : List (List Lit)) (clause part : List Lit) → Contains clauses part
+    → HasAll clause part
     → Absorbs clauses clause
 
 -- no clause of a list of units has all literals of an earlier one, so no two are equal
@@ -44,23 +50,27 @@ UnitsDiffer =
 -- a unit beside all that came before it makes the list longer
 abbrev pub UnitsGrow : Type 0
 UnitsGrow =
-    (base units : List (List Lit)) (unit : List Lit) → AreUnits base units → IsUnit (base ++ units) unit
+    (base units : List (List Lit)) (unit : List Lit) → AreUnits base units
+    → IsUnit (base ++ units) unit
     → AreUnits base (units ++ unit ∷ [])
 
 -- what propagation gives from true literals is true in each assignment that meets the clauses
 abbrev pub ClosureHolds : Type 0
 ClosureHolds =
-    (values : List Bool) (clauses : List (List Lit)) (lits : List Lit) (lit : Lit) → Meets values clauses
+    (values : List Bool) (clauses : List (List Lit)) (lits : List Lit) (lit : Lit)
+    → Meets values clauses
     → All (IsTrueIn values) lits → InClosure clauses lits lit → IsTrueIn values lit
 
 -- where the negations of the literals of a clause are refuted, the clause follows
 abbrev pub RefutedFollows : Type 0
 RefutedFollows =
-    (clauses : List (List Lit)) (clause : List Lit) → Refutes clauses (negations clause) → Follows clauses clause
+    (clauses : List (List Lit)) (clause : List Lit) → Refutes clauses (negations clause)
+    → Follows clauses clause
 
 -- a clause that is added to a store leaves a trail of the store one
 abbrev pub TrailStays : Type 0
-TrailStays = (clauses : List (List Lit)) (clause : List Lit) → KeepsTrails clauses (clauses ++ clause ∷ [])
+TrailStays =
+    (clauses : List (List Lit)) (clause : List Lit) → KeepsTrails clauses (clauses ++ clause ∷ [])
 
 -- the assignment of a total trail makes just the literals true that are true on the trail
 abbrev pub TotalMeans : Type 0

@@ -21,7 +21,8 @@ pub record ForcesOn (steps : List Step) (clause : List Lit) (lit : Lit) : Type 0
   pub others : All (λ other. other ≢ lit → IsFalse steps other) clause
 
 -- the clause of that number is false
-pub record IsConflict (clauses : List (List Lit)) (steps : List Step) (at : ClauseRef) : Type 0 where
+pub record IsConflict (clauses : List (List Lit)) (steps : List Step) (at : ClauseRef) :
+    Type 0 where
   pub clause : List Lit
   pub named : slice_get clauses at.0 ≡ Some clause
   pub is_false : IsFalseOn steps clause

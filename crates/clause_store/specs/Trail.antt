@@ -1,5 +1,9 @@
--- A trail is the list of its assignments in order. What its calls answer are functions of that list.
-use Rattle.std.specs.Prelude.{◌≡◌, ◌≢◌, ◌≤◌, ◌+◌, ◌*◌, ◌==◌, ℕ, Bool, true, false, max, map, filter, nat_le, if◌then◌else◌, List, [], ◌∷◌, take, find, position, slice_get, All, AllPairs, Contains, Option, None, Some, option_map, option_and_then, IsSome, ⊤}
+-- A trail is the list of its assignments in order. What its calls answer are functions of that
+-- list.
+use Rattle.std.specs.Prelude.{◌≡◌, ◌≢◌, ◌≤◌, ◌+◌, ◌*◌, ◌==◌, ℕ, Bool, true, false, max, map, filter}
+use Rattle.std.specs.Prelude.{nat_le, if◌then◌else◌, List, [], ◌∷◌, take, find, position, slice_get}
+use Rattle.std.specs.Prelude.{All, AllPairs, Contains, Option, None, Some, option_map}
+use Rattle.std.specs.Prelude.{option_and_then, IsSome, ⊤}
 use Rattle.std.specs.List.{range_with_len}
 use Rattle.clause_store.specs.declared.literal.Lit.{Lit}
 use Rattle.clause_store.specs.declared.literal.ClauseRef.{ClauseRef}
@@ -51,18 +55,22 @@ next_level level (Some why) = level
 -- from a level on, each decision opens the next level and each forced literal stays
 abbrev pub RisesFrom : ℕ → List Step → Type 0
 RisesFrom level [] = ⊤
-RisesFrom level (step ∷ rest) = (step.level ≡ next_level level step.reason) × RisesFrom step.level rest
+RisesFrom level (step ∷ rest) =
+    (step.level ≡ next_level level step.reason) × RisesFrom step.level rest
 
--- what is true of every trail: each variable is one of 1 to `vars` and is assigned once, and the levels
+-- what is true of every trail: each variable is one of 1 to `vars` and is assigned once, and the
+-- levels
 -- count the decisions
 pub record IsTrail (trail : Assigned) : Type 0 where
   pub over : All (λ step. IsOver trail.vars step.lit) trail.steps
   pub once : AllPairs (λ one two. variable one.lit ≢ variable two.lit) trail.steps
   pub levels : RisesFrom 0 trail.steps
 
--- a clause forces a literal: the reason names it, it has the literal, and its other literals are false
+-- a clause forces a literal: the reason names it, it has the literal, and its other literals are
+-- false
 -- by the assignments before
-pub record IsReasonFor (clauses : List (List Lit)) (before : List Step) (lit : Lit) (why : ClauseRef) : Type 0 where
+pub record IsReasonFor (clauses : List (List Lit)) (before : List Step) (lit : Lit)
+    (why : ClauseRef) : Type 0 where
   pub clause : List Lit
   pub named : slice_get clauses why.0 ≡ Some clause
   pub here : Contains clause lit
@@ -71,7 +79,8 @@ pub record IsReasonFor (clauses : List (List Lit)) (before : List Step) (lit : L
 -- each reason on the trail is a clause of the store that forced its literal when it was assigned
 abbrev pub IsTrailOf : List Step → List (List Lit) → Type 0
 IsTrailOf steps clauses =
-    (at : ℕ) (step : Step) (why : ClauseRef) → slice_get steps at ≡ Some step → step.reason ≡ Some why
+    (at : ℕ) (step : Step) (why : ClauseRef) → slice_get steps at ≡ Some step
+    → step.reason ≡ Some why
     → IsReasonFor clauses (take at steps) step.lit why
 
 -- each trail of the old clauses is one of the new clauses
@@ -98,4 +107,6 @@ is_yes Unset = false
 
 -- the assignment that a trail stands for: a variable is true where its literal is true on the trail
 abbrev pub values_of : Assigned → List Bool
-values_of trail = map (λ var. is_yes (value_of trail.steps (record { 0 = 2 * var }))) (range_with_len 0 (trail.vars + 1))
+values_of trail =
+    map (λ var. is_yes (value_of trail.steps (record { 0 = 2 * var })))
+    (range_with_len 0 (trail.vars + 1))

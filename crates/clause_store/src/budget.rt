@@ -67,7 +67,8 @@ impl Budget {
     /// Counts a clause, which is put last. After want of memory the budget is as before.
     pub fn count(&mut self, alloc: Global, unit: &[Lit]) -> Result<(), NoMemory>
         requires { length self.old.units < self.old.limit }
-        ensures ok { OnOk result (self.new ≡ record self.old { units = self.old.units ++ unit.now ∷ [] }) }
+        ensures ok { OnOk result
+            (self.new ≡ record self.old { units = self.old.units ++ unit.now ∷ [] }) }
         ensures err { OnErr result (self.new ≡ self.old) }
     {
         let copy = Clause::from_slice(alloc, unit)?;

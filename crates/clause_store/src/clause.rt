@@ -1,6 +1,8 @@
-// A clause keeps up to four literals in place. One that holds nothing has no vector, so that opening
+// A clause keeps up to four literals in place. One that holds nothing has no vector, so that
+// opening
 // it takes no memory and no allocator.
-ghost use Rattle.std.specs.Prelude.{◌≡◌, [], ◌∷◌, ◌++◌, ◌<◌, length, take, slice_get, slice_set, Some, OnOk, OnErr, IfOk};
+ghost use Rattle.std.specs.Prelude.{◌≡◌, [], ◌∷◌, ◌++◌, ◌<◌, length, take, slice_get, slice_set};
+ghost use Rattle.std.specs.Prelude.{Some, OnOk, OnErr, IfOk};
 
 use crate::Lit;
 use item_list::{Copied, List, NoMemory};

@@ -1,6 +1,8 @@
-// The literals of all clauses stand in one array, and each clause is a span of it. What a failed `add`
+// The literals of all clauses stand in one array, and each clause is a span of it. What a failed
+// `add`
 // left in the array belongs to no span.
-ghost use Rattle.std.specs.Prelude.{◌≡◌, ◌<◌, [], ◌∷◌, ◌++◌, length, slice_get, Some, IfOk, OnOk, OnErr};
+ghost use Rattle.std.specs.Prelude.{◌≡◌, ◌<◌, [], ◌∷◌, ◌++◌, length, slice_get, Some, IfOk, OnOk};
+ghost use Rattle.std.specs.Prelude.{OnErr};
 ghost use Rattle.clause_store.specs.Clause.{IsClause};
 ghost use Rattle.clause_store.specs.Trail.{KeepsTrails};
 ghost use Rattle.clause_store.specs.Layout.{IsExtended};

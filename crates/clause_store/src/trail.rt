@@ -1,9 +1,13 @@
 // The assignments in order, and beside them two arrays that answer at once: the place of each
-// variable's assignment and the value of each literal. Each variable is assigned at most once, so the
+// variable's assignment and the value of each literal. Each variable is assigned at most once, so
+// the
 // room that `open` reserves for one assignment a variable always suffices.
-ghost use Rattle.std.specs.Prelude.{◌≡◌, ◌<◌, ◌≤◌, ◌^◌, [], ◌∷◌, ◌++◌, ◌+◌, length, Some, None, IfOk, IsTrue, ◌↔◌};
+ghost use Rattle.std.specs.Prelude.{◌≡◌, ◌<◌, ◌≤◌, ◌^◌, [], ◌∷◌, ◌++◌, ◌+◌, length, Some, None};
+ghost use Rattle.std.specs.Prelude.{IfOk, IsTrue, ◌↔◌};
 ghost use Rattle.clause_store.specs.Clause.{IsOver};
-ghost use Rattle.clause_store.specs.Trail.{IsTrail, IsTrailOf, IsReasonFor, StaysTrail, step_of, place_of, value_of, reason_of, level_of, present_level, next_level, up_to};
+ghost use Rattle.clause_store.specs.Trail.{IsTrail, IsTrailOf, IsReasonFor, StaysTrail, step_of};
+ghost use Rattle.clause_store.specs.Trail.{place_of, value_of, reason_of, level_of, present_level};
+ghost use Rattle.clause_store.specs.Trail.{next_level, up_to};
 ghost use Rattle.clause_store.specs.Arrays.{IsWithoutLast};
 
 use crate::{ClauseRef, Lit, Step, Store, Value, Var};
@@ -29,7 +33,8 @@ impl Model for Trail {
 
     ghost view = { λ trail. record { vars = trail.vars; steps = trail.steps.items } };
 
-    ghost invariant = { λ trail. IsKept trail.vars trail.steps.items (vec_len trail.steps) (vec_capacity trail.steps) trail.places.items trail.values.items };
+    ghost invariant = { λ trail. IsKept trail.vars trail.steps.items (vec_len trail.steps)
+        (vec_capacity trail.steps) trail.places.items trail.values.items };
 }
 
 impl Trail {
@@ -143,7 +148,17 @@ impl Trail {
     pub fn decide(&mut self, lit: Lit)
         requires over { IsOver self.old.vars lit }
         requires unset { value_of self.old.steps lit ≡ Value.Unset }
-        ensures steps { self.new ≡ record self.old { steps = self.old.steps ++ record { lit = lit; reason = None; level = present_level self.old.steps + 1 } ∷ [] } }
+        ensures steps { self.new
+            ≡ record self.old {
+              steps =
+                  self.old.steps
+                  ++ record {
+                    lit = lit;
+                    reason = None;
+                    level =
+                        present_level self.old.steps + 1;
+                  } ∷ [];
+            } }
         ensures stays { StaysTrail self.old.steps self.new.steps }
     {
         let level = self.level() + 1;
@@ -160,7 +175,17 @@ impl Trail {
         requires unset { value_of self.old.steps lit ≡ Value.Unset }
         requires forced { IsReasonFor store.now self.old.steps lit why }
         requires of_store { IsTrailOf self.old.steps store.now }
-        ensures steps { self.new ≡ record self.old { steps = self.old.steps ++ record { lit = lit; reason = Some why; level = present_level self.old.steps } ∷ [] } }
+        ensures steps { self.new
+            ≡ record self.old {
+              steps =
+                  self.old.steps
+                  ++ record {
+                    lit = lit;
+                    reason = Some why;
+                    level =
+                        present_level self.old.steps;
+                  } ∷ [];
+            } }
         ensures of_store { IsTrailOf self.new.steps store.now }
     {
         let level = self.level();

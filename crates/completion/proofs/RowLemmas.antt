@@ -1,8 +1,13 @@
 -- The rows in which the bodies of rules are gathered, and that they make the support clauses.
-use Rattle.std.proofs.Common.{◌≡◌, ◌≤◌, ◌<◌, ◌+◌, ℕ, zero, suc, Bool, true, false, cond, eqb, List, [], ◌∷◌, ◌++◌, length, length-set, get_or, get_or-set_same, get_or-set_other, slice_set, map, filter, flat_map, replicate, All, refl, sym, ap, ◌∙◌, arith, if◌then◌else◌, append_assoc, append-nil, ⊎_elim, ◌||◌, true≢false}
+use Rattle.std.proofs.Common.{◌≡◌, ◌≤◌, ◌<◌, ◌+◌, ℕ, zero, suc, Bool, true, false, cond, eqb, List}
+use Rattle.std.proofs.Common.{[], ◌∷◌, ◌++◌, length, length-set, get_or, get_or-set_same}
+use Rattle.std.proofs.Common.{get_or-set_other, slice_set, map, filter, flat_map, replicate, All}
+use Rattle.std.proofs.Common.{refl, sym, ap, ◌∙◌, arith, if◌then◌else◌, append_assoc, append-nil}
+use Rattle.std.proofs.Common.{⊎_elim, ◌||◌, true≢false}
 use Rattle.std.proofs.lemmas.Bool.{eq-eqb, ne_eqb, cases_eq, eqb-true, both_ways}
 use Rattle.std.proofs.lemmas.List.{map-append, length-replicate, get_or-replicate}
-use Rattle.std.proofs.lemmas.List.Elements.{filter-append, All-append, All-nil, All-map, Contains-push}
+use Rattle.std.proofs.lemmas.List.Elements.{filter-append, All-append, All-nil, All-map}
+use Rattle.std.proofs.lemmas.List.Elements.{Contains-push}
 use Rattle.std.proofs.lemmas.List.Folds.{list_any_at}
 use Rattle.std.proofs.lemmas.List.Concat.{flat_map-append}
 use Rattle.clause_store.specs.declared.literal.Lit.{Lit}
@@ -10,7 +15,8 @@ use Rattle.clause_store.specs.Clause.{variable}
 use Rattle.normal_program.specs.declared.normal.NormalRule.{NormalRule}
 use Rattle.normal_program.specs.declared.normal.Normal.{Normal}
 use Rattle.normal_program.specs.Normal.{body_var}
-use Rattle.normal_program.specs.Clauses.{positive, negative, is_lit, has_lit, has_atom, each_once, is_tautology, cleaned, support_clause, numbers_from}
+use Rattle.normal_program.specs.Clauses.{positive, negative, is_lit, has_lit, has_atom, each_once}
+use Rattle.normal_program.specs.Clauses.{is_tautology, cleaned, support_clause, numbers_from}
 use Rattle.completion.specs.Filling.{supports_of}
 use Rattle.completion.specs.Rows.{AreSupports, NotesAll}
 use Rattle.completion.proofs.AddLemmas.{each_once-push, cleaned-one}
@@ -19,134 +25,246 @@ use Rattle.completion.proofs.GainLemmas.{variable-positive}
 
 -- no head yet
 pub NotesAll-none : (lit : Lit) (rows : List (List Lit)) → NotesAll [] lit rows rows
-NotesAll-none lit rows = record { count = refl; each = λ atom. sym (append-nil (get_or rows atom [])) }
+NotesAll-none lit rows =
+    record { count = refl; each = λ atom. sym (append-nil (get_or rows atom [])) }
 
 -- one more head
-pub NotesAll-more : (heads : List ℕ) (head : ℕ) (lit : Lit) (old mid new : List (List Lit)) → NotesAll heads lit old mid → head < length mid → new ≡ slice_set mid head (get_or mid head [] ++ lit ∷ []) → NotesAll (heads ++ head ∷ []) lit old new
+pub NotesAll-more : (heads : List ℕ) (head : ℕ) (lit : Lit) (old mid new : List (List Lit))
+    → NotesAll heads lit old mid → head < length mid
+    → new ≡ slice_set mid head (get_or mid head [] ++ lit ∷ [])
+    → NotesAll (heads ++ head ∷ []) lit old new
 NotesAll-more heads head lit old mid new notes within written = record {
   count = ap length written ∙ length-set mid head (get_or mid head [] ++ lit ∷ []) ∙ notes.count;
   each = λ atom.
       let names : List Lit = map (λ one. lit) (filter (λ one. eqb one atom) heads) in
-      let more : map (λ one. lit) (filter (λ one. eqb one atom) (heads ++ head ∷ [])) ≡ map (λ one. lit) (filter (λ one. eqb one atom) heads) ++ map (λ one. lit) (filter (λ one. eqb one atom) (head ∷ [])) =
-      ap (map (λ one. lit)) (filter-append (λ one. eqb one atom) heads (head ∷ [])) ∙ map-append (λ one. lit) (filter (λ one. eqb one atom) heads) (filter (λ one. eqb one atom) (head ∷ [])) in
+      let more : map (λ one. lit) (filter (λ one. eqb one atom) (heads ++ head ∷ []))
+      ≡ map (λ one. lit) (filter (λ one. eqb one atom) heads)
+      ++ map (λ one. lit) (filter (λ one. eqb one atom) (head ∷ [])) =
+      ap (map (λ one. lit)) (filter-append (λ one. eqb one atom) heads (head ∷ []))
+      ∙ map-append (λ one. lit) (filter (λ one. eqb one atom) heads)
+      (filter (λ one. eqb one atom) (head ∷ [])) in
       ⊎_elim
       (λ same.
-      let mine : map (λ one. lit) (filter (λ one. eqb one atom) (head ∷ [])) ≡ lit ∷ [] = ap (λ b. map (λ one. lit) (cond b (head ∷ []) [])) (eq-eqb head atom same) in
-      ap (λ rows. get_or rows atom []) written ∙ ap (λ a. get_or (slice_set mid head (get_or mid head [] ++ lit ∷ [])) a []) (sym same)
-      ∙ get_or-set_same mid head (get_or mid head [] ++ lit ∷ []) [] within ∙ ap (λ a. get_or mid a [] ++ lit ∷ []) same
-      ∙ ap (λ row. row ++ lit ∷ []) (notes.each atom) ∙ append_assoc (get_or old atom []) names (lit ∷ [])
+      let mine : map (λ one. lit) (filter (λ one. eqb one atom) (head ∷ [])) ≡ lit ∷ [] =
+      ap (λ b. map (λ one. lit) (cond b (head ∷ []) [])) (eq-eqb head atom same) in
+      ap (λ rows. get_or rows atom []) written
+      ∙ ap (λ a. get_or (slice_set mid head (get_or mid head [] ++ lit ∷ [])) a []) (sym same)
+      ∙ get_or-set_same mid head (get_or mid head [] ++ lit ∷ []) [] within
+      ∙ ap (λ a. get_or mid a [] ++ lit ∷ []) same
+      ∙ ap (λ row. row ++ lit ∷ []) (notes.each atom)
+      ∙ append_assoc (get_or old atom []) names (lit ∷ [])
       ∙ ap (λ l. get_or old atom [] ++ l) (sym (more ∙ ap (λ l. names ++ l) mine)))
       (λ other.
-      let none : map (λ one. lit) (filter (λ one. eqb one atom) (head ∷ [])) ≡ [] = ap (λ b. map (λ one. lit) (cond b (head ∷ []) [])) (ne_eqb head atom other) in
-      ap (λ rows. get_or rows atom []) written ∙ get_or-set_other mid head atom (get_or mid head [] ++ lit ∷ []) [] (λ e. other (sym e))
-      ∙ notes.each atom ∙ ap (λ l. get_or old atom [] ++ l) (sym (more ∙ ap (λ l. names ++ l) none ∙ append-nil names)))
+      let none : map (λ one. lit) (filter (λ one. eqb one atom) (head ∷ [])) ≡ [] =
+      ap (λ b. map (λ one. lit) (cond b (head ∷ []) [])) (ne_eqb head atom other) in
+      ap (λ rows. get_or rows atom []) written
+      ∙ get_or-set_other mid head atom (get_or mid head [] ++ lit ∷ []) [] (λ e. other (sym e))
+      ∙ notes.each atom ∙ ap (λ l. get_or old atom [] ++ l)
+      (sym (more ∙ ap (λ l. names ++ l) none ∙ append-nil names)))
       (cases_eq head atom);
 }
 
 -- no rule yet
-pub AreSupports-none : (normal : Normal) (rows : List (List Lit)) → rows ≡ replicate (normal.atoms + 1) [] → AreSupports normal [] rows
+pub AreSupports-none : (normal : Normal) (rows : List (List Lit))
+    → rows ≡ replicate (normal.atoms + 1) [] → AreSupports normal [] rows
 AreSupports-none normal rows empty = record {
   count = ap length empty ∙ length-replicate (normal.atoms + 1) [];
-  each = λ atom low. ap (λ l. get_or l atom []) empty ∙ get_or-replicate (normal.atoms + 1) atom [] [] (omega (arith, low));
+  each =
+      λ atom low. ap (λ l. get_or l atom []) empty
+      ∙ get_or-replicate (normal.atoms + 1) atom [] [] (omega (arith, low));
 }
 
 -- one more rule
-pub AreSupports-more : (normal : Normal) (rules : List NormalRule) (rule : NormalRule) (rows new : List (List Lit)) → AreSupports normal rules rows → NotesAll rule.heads (positive (body_var normal rule.body)) rows new → AreSupports normal (rules ++ rule ∷ []) new
+pub AreSupports-more : (normal : Normal) (rules : List NormalRule) (rule : NormalRule)
+    (rows new : List (List Lit)) → AreSupports normal rules rows
+    → NotesAll rule.heads (positive (body_var normal rule.body)) rows new
+    → AreSupports normal (rules ++ rule ∷ []) new
 AreSupports-more normal rules rule rows new supports notes = record {
   count = notes.count ∙ supports.count;
   each = λ atom low.
-      let row : NormalRule → List Lit = λ one. map (λ head. positive (body_var normal one.body)) (filter (λ head. eqb head atom) one.heads) in
+      let row : NormalRule → List Lit =
+      λ one. map (λ head. positive (body_var normal one.body))
+      (filter (λ head. eqb head atom) one.heads) in
       notes.each atom ∙ ap (λ l. l ++ row rule) (supports.each atom low)
-      ∙ sym (flat_map-append row rules (rule ∷ []) ∙ ap (λ l. flat_map row rules ++ l) (append-nil (row rule)));
+      ∙ sym
+      (flat_map-append row rules (rule ∷ [])
+      ∙ ap (λ l. flat_map row rules ++ l) (append-nil (row rule)));
 }
 
 -- the literals of rows have variables
-pub supports-vars : (normal : Normal) (rules : List NormalRule) (atom : ℕ) → All (λ lit. 1 ≤ variable lit) (supports_of normal rules atom)
+pub supports-vars : (normal : Normal) (rules : List NormalRule) (atom : ℕ)
+    → All (λ lit. 1 ≤ variable lit) (supports_of normal rules atom)
 supports-vars normal [] atom = All-nil (λ lit. 1 ≤ variable lit)
 supports-vars normal (rule ∷ rules) atom =
-    All-append (λ lit. 1 ≤ variable lit) (map (λ head. positive (body_var normal rule.body)) (filter (λ head. eqb head atom) rule.heads)) (supports_of normal rules atom)
-    (All-map (λ lit. 1 ≤ variable lit) (λ (head : ℕ). positive (body_var normal rule.body)) (filter (λ head. eqb head atom) rule.heads) (λ k d h. omega (arith, variable-positive (body_var normal rule.body))))
+    All-append (λ lit. 1 ≤ variable lit)
+    (map (λ head. positive (body_var normal rule.body))
+    (filter (λ head. eqb head atom) rule.heads)) (supports_of normal rules atom)
+    (All-map (λ lit. 1 ≤ variable lit) (λ (head : ℕ). positive (body_var normal rule.body))
+    (filter (λ head. eqb head atom) rule.heads)
+    (λ k d h. omega (arith, variable-positive (body_var normal rule.body))))
     (supports-vars normal rules atom)
 
 -- lists with the same literals once have them so with more
-pub once_more : (xs ys : List Lit) (lit : Lit) → each_once xs ≡ each_once ys → each_once (xs ++ lit ∷ []) ≡ each_once (ys ++ lit ∷ [])
-once_more xs ys lit same = each_once-push xs lit ∙ ap (λ l. if has_lit l lit then l else l ++ lit ∷ []) same ∙ sym (each_once-push ys lit)
+pub once_more : (xs ys : List Lit) (lit : Lit) → each_once xs ≡ each_once ys
+    → each_once (xs ++ lit ∷ []) ≡ each_once (ys ++ lit ∷ [])
+once_more xs ys lit same =
+    each_once-push xs lit ∙ ap (λ l. if has_lit l lit then l else l ++ lit ∷ []) same
+    ∙ sym (each_once-push ys lit)
 
 -- a literal is found in what it was put to
 once_found : (xs : List Lit) (lit : Lit) → has_lit (each_once (xs ++ lit ∷ [])) lit ≡ true
 once_found xs lit =
     let here = once_has (xs ++ lit ∷ []) lit (Contains-push xs lit) in
-    list_any_at (is_lit lit) (each_once (xs ++ lit ∷ [])) here.0 lit here.1 (eq-eqb lit.0 (get_or (each_once (xs ++ lit ∷ [])) here.0 lit).0 (ap (λ (one : Lit). one.0) (sym here.2)))
+    list_any_at (is_lit lit) (each_once (xs ++ lit ∷ [])) here.0 lit here.1
+    (eq-eqb lit.0 (get_or (each_once (xs ++ lit ∷ [])) here.0 lit).0
+    (ap (λ (one : Lit). one.0) (sym here.2)))
 
 -- a literal that is there comes again without effect
-row_repeat : (test : ℕ → Bool) (lit : Lit) (heads : List ℕ) (xs : List Lit) → has_lit (each_once xs) lit ≡ true → each_once (xs ++ map (λ head. lit) (filter test heads)) ≡ each_once xs
+row_repeat : (test : ℕ → Bool) (lit : Lit) (heads : List ℕ) (xs : List Lit)
+    → has_lit (each_once xs) lit ≡ true
+    → each_once (xs ++ map (λ head. lit) (filter test heads)) ≡ each_once xs
 row_repeat test lit [] xs found = ap each_once (append-nil xs)
-row_repeat test lit (head ∷ heads) xs found = by (test head) refl (row_repeat test lit heads xs found) (row_repeat test lit heads (xs ++ lit ∷ []) (once_found xs lit))
+row_repeat test lit (head ∷ heads) xs found =
+    by (test head) refl (row_repeat test lit heads xs found)
+    (row_repeat test lit heads (xs ++ lit ∷ []) (once_found xs lit))
   where
-    by : (b : Bool) → test head ≡ b → each_once (xs ++ map (λ one. lit) (filter test heads)) ≡ each_once xs
-        → each_once ((xs ++ lit ∷ []) ++ map (λ one. lit) (filter test heads)) ≡ each_once (xs ++ lit ∷ [])
+    by : (b : Bool) → test head ≡ b
+        → each_once (xs ++ map (λ one. lit) (filter test heads)) ≡ each_once xs
+        → each_once ((xs ++ lit ∷ []) ++ map (λ one. lit) (filter test heads))
+        ≡ each_once (xs ++ lit ∷ [])
         → each_once (xs ++ map (λ one. lit) (filter test (head ∷ heads))) ≡ each_once xs
     by true e same more =
-        ap (λ b. each_once (xs ++ map (λ one. lit) (cond b (head ∷ filter test heads) (filter test heads)))) e
-        ∙ ap each_once (sym (append_assoc xs (lit ∷ []) (map (λ one. lit) (filter test heads)))) ∙ more
-        ∙ each_once-push xs lit ∙ ap (λ b. if b then each_once xs else each_once xs ++ lit ∷ []) found
-    by false e same more = ap (λ b. each_once (xs ++ map (λ one. lit) (cond b (head ∷ filter test heads) (filter test heads)))) e ∙ same
+        ap (λ b. each_once
+        (xs ++ map (λ one. lit) (cond b (head ∷ filter test heads) (filter test heads)))) e
+        ∙ ap each_once (sym (append_assoc xs (lit ∷ []) (map (λ one. lit) (filter test heads))))
+        ∙ more
+        ∙ each_once-push xs lit ∙ ap (λ b. if b then each_once xs else each_once xs ++ lit ∷ [])
+        found
+    by false e same more =
+        ap (λ b. each_once
+        (xs ++ map (λ one. lit) (cond b (head ∷ filter test heads) (filter test heads)))) e
+        ∙ same
 
 -- the body of a rule comes for each head that is the atom, or once
-row_once : (atom : ℕ) (lit : Lit) (xs : List Lit) (heads : List ℕ) → has_atom heads atom ≡ true → each_once (xs ++ map (λ head. lit) (filter (λ head. eqb head atom) heads)) ≡ each_once (xs ++ lit ∷ [])
+row_once : (atom : ℕ) (lit : Lit) (xs : List Lit) (heads : List ℕ) → has_atom heads atom ≡ true
+    → each_once (xs ++ map (λ head. lit) (filter (λ head. eqb head atom) heads))
+    ≡ each_once (xs ++ lit ∷ [])
 row_once atom lit xs [] found = absurd (true≢false (sym found))
 row_once atom lit xs (head ∷ heads) found = by (eqb head atom) refl (row_once atom lit xs heads)
   where
-    by : (b : Bool) → eqb head atom ≡ b → (has_atom heads atom ≡ true → each_once (xs ++ map (λ one. lit) (filter (λ one. eqb one atom) heads)) ≡ each_once (xs ++ lit ∷ []))
-        → each_once (xs ++ map (λ one. lit) (filter (λ one. eqb one atom) (head ∷ heads))) ≡ each_once (xs ++ lit ∷ [])
+    by : (b : Bool) → eqb head atom ≡ b
+        → (has_atom heads atom ≡ true
+        → each_once (xs ++ map (λ one. lit) (filter (λ one. eqb one atom) heads))
+        ≡ each_once (xs ++ lit ∷ []))
+        → each_once (xs ++ map (λ one. lit) (filter (λ one. eqb one atom) (head ∷ heads)))
+        ≡ each_once (xs ++ lit ∷ [])
     by true e later =
-        ap (λ b. each_once (xs ++ map (λ one. lit) (cond b (head ∷ filter (λ one. eqb one atom) heads) (filter (λ one. eqb one atom) heads)))) e
-        ∙ ap each_once (sym (append_assoc xs (lit ∷ []) (map (λ one. lit) (filter (λ one. eqb one atom) heads))))
+        ap (λ b. each_once
+        (xs ++ map (λ one. lit)
+        (cond b (head ∷ filter (λ one. eqb one atom) heads)
+        (filter (λ one. eqb one atom) heads)))) e
+        ∙ ap each_once
+        (sym
+        (append_assoc xs (lit ∷ [])
+        (map (λ one. lit) (filter (λ one. eqb one atom) heads))))
         ∙ row_repeat (λ one. eqb one atom) lit heads (xs ++ lit ∷ []) (once_found xs lit)
     by false e later =
-        let other : eqb atom head ≡ false = ne_eqb atom head (λ same. both_ways (eqb head atom) e (eq-eqb head atom (sym same))) in
-        ap (λ b. each_once (xs ++ map (λ one. lit) (cond b (head ∷ filter (λ one. eqb one atom) heads) (filter (λ one. eqb one atom) heads)))) e
+        let other : eqb atom head ≡ false =
+        ne_eqb atom head (λ same. both_ways (eqb head atom) e (eq-eqb head atom (sym same))) in
+        ap (λ b. each_once
+        (xs ++ map (λ one. lit)
+        (cond b (head ∷ filter (λ one. eqb one atom) heads)
+        (filter (λ one. eqb one atom) heads)))) e
         ∙ later (sym (ap (λ b. b || has_atom heads atom) other) ∙ found)
 
-row_none : (atom : ℕ) (lit : Lit) (heads : List ℕ) → has_atom heads atom ≡ false → map (λ head. lit) (filter (λ head. eqb head atom) heads) ≡ []
+row_none : (atom : ℕ) (lit : Lit) (heads : List ℕ) → has_atom heads atom ≡ false
+    → map (λ head. lit) (filter (λ head. eqb head atom) heads) ≡ []
 row_none atom lit [] none = refl
 row_none atom lit (head ∷ heads) none = by (eqb head atom) refl (row_none atom lit heads)
   where
-    by : (b : Bool) → eqb head atom ≡ b → (has_atom heads atom ≡ false → map (λ one. lit) (filter (λ one. eqb one atom) heads) ≡ [])
+    by : (b : Bool) → eqb head atom ≡ b
+        → (has_atom heads atom ≡ false → map (λ one. lit) (filter (λ one. eqb one atom) heads) ≡ [])
         → map (λ one. lit) (filter (λ one. eqb one atom) (head ∷ heads)) ≡ []
-    by true e later = absurd (both_ways (has_atom (head ∷ heads) atom) none (ap (λ b. b || has_atom heads atom) (eq-eqb atom head (sym (eqb-true head atom e)))))
+    by true e later =
+        absurd
+        (both_ways (has_atom (head ∷ heads) atom) none
+        (ap (λ b. b || has_atom heads atom)
+        (eq-eqb atom head (sym (eqb-true head atom e)))))
     by false e later =
-        let other : eqb atom head ≡ false = ne_eqb atom head (λ same. both_ways (eqb head atom) e (eq-eqb head atom (sym same))) in
-        ap (λ b. map (λ one. lit) (cond b (head ∷ filter (λ one. eqb one atom) heads) (filter (λ one. eqb one atom) heads))) e
+        let other : eqb atom head ≡ false =
+        ne_eqb atom head (λ same. both_ways (eqb head atom) e (eq-eqb head atom (sym same))) in
+        ap (λ b. map (λ one. lit)
+        (cond b (head ∷ filter (λ one. eqb one atom) heads)
+        (filter (λ one. eqb one atom) heads))) e
         ∙ later (sym (ap (λ b. b || has_atom heads atom) other) ∙ none)
 
 -- the rows have the same literals as the support clauses, each once
-rows_once : (normal : Normal) (atom : ℕ) (rules : List NormalRule) (xs ys : List Lit) → each_once xs ≡ each_once ys
-    → each_once (xs ++ supports_of normal rules atom) ≡ each_once (ys ++ map (λ rule. positive (body_var normal rule.body)) (filter (λ rule. has_atom rule.heads atom) rules))
-rows_once normal atom [] xs ys same = ap each_once (append-nil xs) ∙ same ∙ sym (ap each_once (append-nil ys))
+rows_once : (normal : Normal) (atom : ℕ) (rules : List NormalRule) (xs ys : List Lit)
+    → each_once xs ≡ each_once ys
+    → each_once (xs ++ supports_of normal rules atom)
+    ≡ each_once
+    (ys ++ map (λ rule. positive (body_var normal rule.body))
+    (filter (λ rule. has_atom rule.heads atom) rules))
+rows_once normal atom [] xs ys same =
+    ap each_once (append-nil xs) ∙ same ∙ sym (ap each_once (append-nil ys))
 rows_once normal atom (rule ∷ rules) xs ys same =
-    ap each_once (sym (append_assoc xs (map (λ head. positive (body_var normal rule.body)) (filter (λ head. eqb head atom) rule.heads)) (supports_of normal rules atom)))
+    ap each_once
+    (sym
+    (append_assoc xs
+    (map (λ head. positive (body_var normal rule.body))
+    (filter (λ head. eqb head atom) rule.heads)) (supports_of normal rules atom)))
     ∙ by (has_atom rule.heads atom) refl (rows_once normal atom rules)
   where
     by : (b : Bool) → has_atom rule.heads atom ≡ b
-        → ((us vs : List Lit) → each_once us ≡ each_once vs → each_once (us ++ supports_of normal rules atom) ≡ each_once (vs ++ map (λ one. positive (body_var normal one.body)) (filter (λ one. has_atom one.heads atom) rules)))
-        → each_once ((xs ++ map (λ head. positive (body_var normal rule.body)) (filter (λ head. eqb head atom) rule.heads)) ++ supports_of normal rules atom)
-        ≡ each_once (ys ++ map (λ one. positive (body_var normal one.body)) (filter (λ one. has_atom one.heads atom) (rule ∷ rules)))
+        → ((us vs : List Lit) → each_once us ≡ each_once vs
+        → each_once (us ++ supports_of normal rules atom)
+        ≡ each_once
+        (vs ++ map (λ one. positive (body_var normal one.body))
+        (filter (λ one. has_atom one.heads atom) rules)))
+        → each_once
+        ((xs ++ map (λ head. positive (body_var normal rule.body))
+        (filter (λ head. eqb head atom) rule.heads)) ++ supports_of normal rules atom)
+        ≡ each_once
+        (ys ++ map (λ one. positive (body_var normal one.body))
+        (filter (λ one. has_atom one.heads atom) (rule ∷ rules)))
     by true e later =
-        later (xs ++ map (λ head. positive (body_var normal rule.body)) (filter (λ head. eqb head atom) rule.heads)) (ys ++ positive (body_var normal rule.body) ∷ [])
-        (row_once atom (positive (body_var normal rule.body)) xs rule.heads e ∙ once_more xs ys (positive (body_var normal rule.body)) same)
-        ∙ ap each_once (append_assoc ys (positive (body_var normal rule.body) ∷ []) (map (λ one. positive (body_var normal one.body)) (filter (λ one. has_atom one.heads atom) rules)))
-        ∙ sym (ap (λ b. each_once (ys ++ map (λ one. positive (body_var normal one.body)) (cond b (rule ∷ filter (λ one. has_atom one.heads atom) rules) (filter (λ one. has_atom one.heads atom) rules)))) e)
+        later
+        (xs ++ map (λ head. positive (body_var normal rule.body))
+        (filter (λ head. eqb head atom) rule.heads))
+        (ys ++ positive (body_var normal rule.body) ∷ [])
+        (row_once atom (positive (body_var normal rule.body)) xs rule.heads e
+        ∙ once_more xs ys (positive (body_var normal rule.body)) same)
+        ∙ ap each_once
+        (append_assoc ys (positive (body_var normal rule.body) ∷ [])
+        (map (λ one. positive (body_var normal one.body))
+        (filter (λ one. has_atom one.heads atom) rules)))
+        ∙ sym
+        (ap (λ b. each_once
+        (ys ++ map (λ one. positive (body_var normal one.body))
+        (cond b (rule ∷ filter (λ one. has_atom one.heads atom) rules)
+        (filter (λ one. has_atom one.heads atom) rules)))) e)
     by false e later =
-        later (xs ++ map (λ head. positive (body_var normal rule.body)) (filter (λ head. eqb head atom) rule.heads)) ys
-        (ap (λ row. each_once (xs ++ row)) (row_none atom (positive (body_var normal rule.body)) rule.heads e) ∙ ap each_once (append-nil xs) ∙ same)
-        ∙ sym (ap (λ b. each_once (ys ++ map (λ one. positive (body_var normal one.body)) (cond b (rule ∷ filter (λ one. has_atom one.heads atom) rules) (filter (λ one. has_atom one.heads atom) rules)))) e)
+        later
+        (xs ++ map (λ head. positive (body_var normal rule.body))
+        (filter (λ head. eqb head atom) rule.heads)) ys
+        (ap (λ row. each_once (xs ++ row))
+        (row_none atom (positive (body_var normal rule.body)) rule.heads e)
+        ∙ ap each_once (append-nil xs) ∙ same)
+        ∙ sym
+        (ap (λ b. each_once
+        (ys ++ map (λ one. positive (body_var normal one.body))
+        (cond b (rule ∷ filter (λ one. has_atom one.heads atom) rules)
+        (filter (λ one. has_atom one.heads atom) rules)))) e)
 
 -- a row makes the support clause of its atom
-pub cleaned-row : (normal : Normal) (atom : ℕ) (row : List Lit) → row ≡ supports_of normal normal.rules atom → cleaned ((negative atom ∷ row) ∷ []) ≡ cleaned (support_clause normal atom ∷ [])
+pub cleaned-row : (normal : Normal) (atom : ℕ) (row : List Lit)
+    → row ≡ supports_of normal normal.rules atom
+    → cleaned ((negative atom ∷ row) ∷ []) ≡ cleaned (support_clause normal atom ∷ [])
 cleaned-row normal atom row same =
     cleaned-one (negative atom ∷ row)
-    ∙ ap (λ l. if is_tautology l then [] else l ∷ []) (ap (λ l. each_once (negative atom ∷ l)) same ∙ rows_once normal atom normal.rules (negative atom ∷ []) (negative atom ∷ []) refl)
+    ∙ ap (λ l. if is_tautology l then [] else l ∷ [])
+    (ap (λ l. each_once (negative atom ∷ l)) same
+    ∙ rows_once normal atom normal.rules (negative atom ∷ []) (negative atom ∷ []) refl)
     ∙ sym (cleaned-one (support_clause normal atom))
 
 -- numbers from the first on
@@ -154,7 +272,9 @@ pub length-numbers : (first count : ℕ) → length (numbers_from first count) �
 length-numbers first zero = refl
 length-numbers first (suc count) = omega (arith, length-numbers (first + 1) count)
 
-pub get_or-numbers : (first count k d : ℕ) → k < count → get_or (numbers_from first count) k d ≡ first + k
+pub get_or-numbers : (first count k d : ℕ) → k < count
+    → get_or (numbers_from first count) k d ≡ first + k
 get_or-numbers first zero k d within = absurd (omega (arith, within))
 get_or-numbers first (suc count) zero d within = omega arith
-get_or-numbers first (suc count) (suc k) d within = omega (arith, get_or-numbers (first + 1) count k d (omega (arith, within)))
+get_or-numbers first (suc count) (suc k) d within =
+    omega (arith, get_or-numbers (first + 1) count k d (omega (arith, within)))

@@ -30,5 +30,6 @@ pub record IsVar (var : ℕ) : Type 0 where
 abbrev pub supports_of : Normal → List NormalRule → ℕ → List Lit
 supports_of normal rules atom =
     flat_map
-    (λ rule. map (λ head. positive (body_var normal rule.body)) (filter (λ head. nat_eq head atom) rule.heads))
+    (λ rule. map (λ head. positive (body_var normal rule.body))
+    (filter (λ head. nat_eq head atom) rule.heads))
     rules

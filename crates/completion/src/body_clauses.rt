@@ -2,7 +2,8 @@
 ghost use Rattle.std.specs.Prelude.{◌≡◌, [], ◌∷◌, map, flat_map, All, IfOk, OnOk, OnErr};
 ghost use Rattle.clause_store.specs.Clause.{negation};
 ghost use Rattle.normal_program.specs.Body.{is_conjunctive};
-ghost use Rattle.normal_program.specs.Clauses.{positive, negative, literal_of, literals_of, all_clauses, body_clauses, numbered_bodies, cleaned};
+ghost use Rattle.normal_program.specs.Clauses.{positive, negative, literal_of, literals_of};
+ghost use Rattle.normal_program.specs.Clauses.{all_clauses, body_clauses, numbered_bodies, cleaned};
 ghost use Rattle.normal_program.specs.Range.{IsInRange};
 ghost use Rattle.completion.specs.Filling.{Gains, GainsFirst, IsVar};
 
@@ -47,8 +48,10 @@ fn asks_for_all(body: &BodyOf) -> bool
 fn define(alloc: Global, store: &mut Store, var: Var, parts: &[Part]) -> Result<(), NoMemory>
     requires var { IsVar var.0 }
     requires parts { All (λ part. IsVar part.lit.atom) parts.now }
-    ensures ok { OnOk result (Gains store.old store.new (cleaned (all_clauses var.0 (literals_of parts.now)))) }
-    ensures err { OnErr result (GainsFirst store.old store.new (cleaned (all_clauses var.0 (literals_of parts.now)))) }
+    ensures ok { OnOk result
+        (Gains store.old store.new (cleaned (all_clauses var.0 (literals_of parts.now)))) }
+    ensures err { OnErr result
+        (GainsFirst store.old store.new (cleaned (all_clauses var.0 (literals_of parts.now)))) }
 {
     imply_each(alloc, store, var, parts)?;
     let clause = all_or_false(alloc, var, parts)?;
@@ -74,7 +77,8 @@ fn imply_each(alloc: Global, store: &mut Store, var: Var, parts: &[Part]) -> Res
 fn all_or_false(alloc: Global, var: Var, parts: &[Part]) -> Result<Vec<Lit>, NoMemory>
     requires var { IsVar var.0 }
     requires parts { All (λ part. IsVar part.lit.atom) parts.now }
-    ensures { IfOk result (λ clause. clause.items ≡ positive var.0 ∷ map negation (literals_of parts.now)) }
+    ensures { IfOk result
+        (λ clause. clause.items ≡ positive var.0 ∷ map negation (literals_of parts.now)) }
 {
     let mut clause = Vec::new(alloc);
     clause.push(var.positive())?;

@@ -3,7 +3,9 @@ ghost use Rattle.std.specs.Prelude.{◌≡◌, ◌++◌, map, flat_map, OnOk, On
 ghost use Rattle.clause_store.specs.Clause.{AreOver};
 ghost use Rattle.clause_store.specs.Trail.{KeepsTrails};
 ghost use Rattle.normal_program.specs.Normal.{greatest_body_var};
-ghost use Rattle.normal_program.specs.Clauses.{base_clauses, body_clauses, numbered_bodies, rule_clauses, support_clause, atoms_of_normal, compute_clauses, cleaned};
+ghost use Rattle.normal_program.specs.Clauses.{base_clauses, body_clauses, numbered_bodies};
+ghost use Rattle.normal_program.specs.Clauses.{rule_clauses, support_clause, atoms_of_normal};
+ghost use Rattle.normal_program.specs.Clauses.{compute_clauses, cleaned};
 ghost use Rattle.normal_program.specs.Limit.{IsNormal};
 ghost use Rattle.normal_program.specs.Range.{IsInRange};
 ghost use Rattle.completion.specs.Completion.{AreEntailed, MakeModels};
@@ -52,7 +54,8 @@ fn complete_whole(alloc: Global, normal: &Normal, store: &mut Store) -> Result<(
 fn add_compute(alloc: Global, normal: &Normal, store: &mut Store) -> Result<(), NoMemory>
     requires { IsInRange normal.now }
     ensures ok { OnOk result (Gains store.old store.new (cleaned (compute_clauses normal.now))) }
-    ensures err { OnErr result (GainsFirst store.old store.new (cleaned (compute_clauses normal.now))) }
+    ensures err { OnErr result
+        (GainsFirst store.old store.new (cleaned (compute_clauses normal.now))) }
 {
     add_true(alloc, store, normal.must.as_slice())?;
     add_false(alloc, store, normal.must_not.as_slice())

@@ -1,7 +1,8 @@
 // The clauses of rules and of the compute statement.
 ghost use Rattle.std.specs.Prelude.{◌≡◌, ◌∷◌, map, flat_map, not, All, IfOk, OnOk, OnErr};
 ghost use Rattle.normal_program.specs.Normal.{body_var};
-ghost use Rattle.normal_program.specs.Clauses.{positive, negative, alone, is_choice, rule_clauses, cleaned};
+ghost use Rattle.normal_program.specs.Clauses.{positive, negative, alone, is_choice, rule_clauses};
+ghost use Rattle.normal_program.specs.Clauses.{cleaned};
 ghost use Rattle.normal_program.specs.Range.{IsInRange};
 ghost use Rattle.completion.specs.Filling.{Gains, GainsFirst, IsVar};
 
@@ -14,7 +15,9 @@ use std::alloc::Global;
 /// Adds the clauses of all rules that aren't choice rules.
 pub fn add_rules(alloc: Global, normal: &Normal, store: &mut Store) -> Result<(), NoMemory>
     requires { IsInRange normal.now }
-    ensures ok { OnOk result (Gains store.old store.new (cleaned (flat_map (rule_clauses normal.now) normal.now.rules))) }
+    ensures ok { OnOk result
+        (Gains store.old store.new
+        (cleaned (flat_map (rule_clauses normal.now) normal.now.rules))) }
     ensures err { OnErr result (GainsFirst store.old store.new
         (cleaned (flat_map (rule_clauses normal.now) normal.now.rules))) }
 {
@@ -55,8 +58,10 @@ fn head_clause(alloc: Global, var: Var, heads: &[u32]) -> Result<Vec<Lit>, NoMem
 /// Adds the clause of each atom alone.
 pub fn add_true(alloc: Global, store: &mut Store, atoms: &[u32]) -> Result<(), NoMemory>
     requires { All IsVar atoms.now }
-    ensures ok { OnOk result (Gains store.old store.new (cleaned (map (λ atom. alone (positive atom)) atoms.now))) }
-    ensures err { OnErr result (GainsFirst store.old store.new (cleaned (map (λ atom. alone (positive atom)) atoms.now))) }
+    ensures ok { OnOk result
+        (Gains store.old store.new (cleaned (map (λ atom. alone (positive atom)) atoms.now))) }
+    ensures err { OnErr result
+        (GainsFirst store.old store.new (cleaned (map (λ atom. alone (positive atom)) atoms.now))) }
 {
     for atom in atoms {
         add_clause(alloc, store, &[Var(*atom).positive()])?;
@@ -67,8 +72,10 @@ pub fn add_true(alloc: Global, store: &mut Store, atoms: &[u32]) -> Result<(), N
 /// Adds the clause of the negation of each atom alone.
 pub fn add_false(alloc: Global, store: &mut Store, atoms: &[u32]) -> Result<(), NoMemory>
     requires { All IsVar atoms.now }
-    ensures ok { OnOk result (Gains store.old store.new (cleaned (map (λ atom. alone (negative atom)) atoms.now))) }
-    ensures err { OnErr result (GainsFirst store.old store.new (cleaned (map (λ atom. alone (negative atom)) atoms.now))) }
+    ensures ok { OnOk result
+        (Gains store.old store.new (cleaned (map (λ atom. alone (negative atom)) atoms.now))) }
+    ensures err { OnErr result
+        (GainsFirst store.old store.new (cleaned (map (λ atom. alone (negative atom)) atoms.now))) }
 {
     for atom in atoms {
         add_clause(alloc, store, &[Var(*atom).negative()])?;

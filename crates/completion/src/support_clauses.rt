@@ -1,7 +1,9 @@
 // The support of atoms: where an atom is true, the body of some rule for it is.
-ghost use Rattle.std.specs.Prelude.{◌≡◌, ◌≤◌, ◌<◌, ◌+◌, [], ◌∷◌, ◌++◌, ℕ, List, length, map, replicate, slice_set, slice_index_or, All, IfOk, OnOk, OnErr};
+ghost use Rattle.std.specs.Prelude.{◌≡◌, ◌≤◌, ◌<◌, ◌+◌, [], ◌∷◌, ◌++◌, ℕ, List, length, map};
+ghost use Rattle.std.specs.Prelude.{replicate, slice_set, slice_index_or, All, IfOk, OnOk, OnErr};
 ghost use Rattle.clause_store.specs.Clause.{variable};
-ghost use Rattle.normal_program.specs.Clauses.{positive, negative, support_clause, atoms_of_normal, cleaned};
+ghost use Rattle.normal_program.specs.Clauses.{positive, negative, support_clause, atoms_of_normal};
+ghost use Rattle.normal_program.specs.Clauses.{cleaned};
 ghost use Rattle.normal_program.specs.Range.{IsInRange};
 ghost use Rattle.completion.specs.Filling.{Gains, GainsFirst, IsVar};
 ghost use Rattle.completion.specs.Rows.{rows_of, AreSupports, NotesAll};
@@ -30,7 +32,8 @@ pub fn add_supports(alloc: Global, normal: &Normal, store: &mut Store) -> Result
 fn add_support(alloc: Global, store: &mut Store, atom: u32, bodies: &[Lit]) -> Result<(), NoMemory>
     requires atom { IsVar atom }
     requires bodies { All (λ lit. 1 ≤ variable lit) bodies.now }
-    ensures ok { OnOk result (Gains store.old store.new (cleaned ((negative atom ∷ bodies.now) ∷ []))) }
+    ensures ok { OnOk result
+        (Gains store.old store.new (cleaned ((negative atom ∷ bodies.now) ∷ []))) }
     ensures err { OnErr result (store.new ≡ store.old) }
 {
     let mut clause = Vec::new(alloc);

@@ -1,10 +1,15 @@
 -- Resolving with reasons until one open assignment is left, and what the clause is then.
-use Rattle.std.proofs.Common.{◌≡◌, ◌≢◌, ℕ, ◌+◌, ◌/◌, ◌<◌, ◌≤◌, max, Bool, true, false, cond, eqb, not, List, [], ◌∷◌, ◌++◌, length, take, get_or, Option, Some, None, refl, sym, ap, ap₂, ◌∙◌, subst, inl, inr, arith}
-use Rattle.std.specs.Prelude.{All, Any, Contains, slice_get, count_by, filter, IsSome, IsTrue, unwrap_or}
+use Rattle.std.proofs.Common.{◌≡◌, ◌≢◌, ℕ, ◌+◌, ◌/◌, ◌<◌, ◌≤◌, max, Bool, true, false, cond, eqb}
+use Rattle.std.proofs.Common.{not, List, [], ◌∷◌, ◌++◌, length, take, get_or, Option, Some, None}
+use Rattle.std.proofs.Common.{refl, sym, ap, ap₂, ◌∙◌, subst, inl, inr, arith}
+use Rattle.std.specs.Prelude.{All, Any, Contains, slice_get, count_by, filter, IsSome, IsTrue}
+use Rattle.std.specs.Prelude.{unwrap_or}
 use Rattle.std.proofs.lemmas.Bool.{cases_Bool, cases_eq, eq-eqb, ne_eqb, false≢true, not_from_false}
 use Rattle.std.proofs.lemmas.List.{append-nil, take_more}
 use Rattle.std.proofs.Math.Seq.{take-length}
-use Rattle.std.proofs.lemmas.List.Elements.{All-head, All-tail, All-cons, All-contains, All-contains_itself, All-push, All-weaker, Contains-append_left, Contains-push, filter-append}
+use Rattle.std.proofs.lemmas.List.Elements.{All-head, All-tail, All-cons, All-contains}
+use Rattle.std.proofs.lemmas.List.Elements.{All-contains_itself, All-push, All-weaker}
+use Rattle.std.proofs.lemmas.List.Elements.{Contains-append_left, Contains-push, filter-append}
 use Rattle.std.proofs.lemmas.List.Quantifiers.{all_pairs_push}
 use Rattle.std.proofs.lemmas.Option.{same_Some, slice_get_within}
 use Rattle.clause_store.specs.declared.literal.Lit.{Lit}
@@ -13,60 +18,105 @@ use Rattle.clause_store.specs.declared.literal.Value.TheVariants.{Yes, No}
 use Rattle.clause_store.specs.declared.step.Step.{Step}
 use Rattle.clause_store.specs.Clause.{variable, negation, HasNoVariableTwice, IsOver}
 use Rattle.clause_store.specs.Entailment.{negations, others, InClosure, Refutes}
-use Rattle.clause_store.specs.Trail.{Assigned, IsTrailOf, IsReasonFor, step_of, value_by, level_of, present_level, next_level}
-use Rattle.clause_store.proofs.LiteralLemmas.{all_through, any_from, cases_lit, has_mapped, negation-negation, variable-negation}
+use Rattle.clause_store.specs.Trail.{Assigned, IsTrailOf, IsReasonFor, step_of, value_by, level_of}
+use Rattle.clause_store.specs.Trail.{present_level, next_level}
+use Rattle.clause_store.proofs.LiteralLemmas.{all_through, any_from, cases_lit, has_mapped}
+use Rattle.clause_store.proofs.LiteralLemmas.{negation-negation, variable-negation}
 use Rattle.clause_store.proofs.ArrayLemmas.{negation_differs}
 use Rattle.conflict_learning.specs.declared.walk.Walk.{Walk}
 use Rattle.clause_store.specs.Standing.{IsFalse, IsConflict}
 use Rattle.conflict_learning.specs.Analysis.{StandsIn, level_at, greatest_level, IsAsserting}
 use Rattle.conflict_learning.specs.Marks.{IsMarked, is_open}
-use Rattle.conflict_learning.specs.Walk.{IsLower, IsUnderWay, AllStand, GivenBy, Begins, IsNotable, NotesAll, GoesBack, ResolvesTo}
-use Rattle.conflict_learning.proofs.AssignedLemmas.{here_at, refuter, false_later, false_over, below_present, step_at, level_found}
+use Rattle.conflict_learning.specs.Walk.{IsLower, IsUnderWay, AllStand, GivenBy, Begins, IsNotable}
+use Rattle.conflict_learning.specs.Walk.{NotesAll, GoesBack, ResolvesTo}
+use Rattle.conflict_learning.proofs.AssignedLemmas.{here_at, refuter, false_later, false_over}
+use Rattle.conflict_learning.proofs.AssignedLemmas.{below_present, step_at, level_found}
 use Rattle.conflict_learning.proofs.MarkLemmas.{none_counted, count_none}
-use Rattle.conflict_learning.proofs.GivenLemmas.{open_parts, open_from, noted_known, given_resolved, negations_within}
+use Rattle.conflict_learning.proofs.GivenLemmas.{open_parts, open_from, noted_known, given_resolved}
+use Rattle.conflict_learning.proofs.GivenLemmas.{negations_within}
 
 -- ---- resolving
 
 -- an open assignment was passed, and what its literal gives so far
-pub record IsResolving (clauses : List (List Lit)) (trail : Assigned) (old now : Walk) (step : Step) : Type 0 where
+pub record IsResolving (clauses : List (List Lit)) (trail : Assigned) (old now : Walk)
+    (step : Step) : Type 0 where
   pub under_way : IsUnderWay trail now
   pub there : slice_get trail.steps now.at ≡ Some step
   pub level : step.level ≡ now.level
   pub marked : IsMarked now.marks.items (variable step.lit)
   pub stands : AllStand clauses trail old → AllStand clauses trail now
-  pub given : (lit : Lit) → GivenBy clauses trail old [] lit → GivenBy clauses trail now (step.lit ∷ []) lit
+  pub given : (lit : Lit) → GivenBy clauses trail old [] lit
+      → GivenBy clauses trail now (step.lit ∷ []) lit
 
-pub resolving_begins : (clauses : List (List Lit)) (trail : Assigned) (old now : Walk) (step : Step) → GoesBack trail old now step → IsResolving clauses trail old now step
+pub resolving_begins : (clauses : List (List Lit)) (trail : Assigned) (old now : Walk) (step : Step)
+    → GoesBack trail old now step → IsResolving clauses trail old now step
 resolving_begins clauses trail old now step back =
-    record { under_way = back.under_way; there = back.there; level = back.level; marked = back.marked; stands = back.stands clauses; given = back.given clauses }
+    record {
+      under_way = back.under_way;
+      there = back.there;
+      level = back.level;
+      marked =
+          back.marked;
+      stands = back.stands clauses;
+      given = back.given clauses;
+    }
 
-pub resolving_ends : (clauses : List (List Lit)) (trail : Assigned) (old now : Walk) (step : Step) (lit : Lit) → IsResolving clauses trail old now step → now.unresolved ≡ 0 → lit ≡ negation step.lit
+pub resolving_ends : (clauses : List (List Lit)) (trail : Assigned) (old now : Walk) (step : Step)
+    (lit : Lit) → IsResolving clauses trail old now step → now.unresolved ≡ 0
+    → lit ≡ negation step.lit
     → ResolvesTo clauses trail old now lit
 resolving_ends clauses trail old now step lit is none at =
-    record { under_way = is.under_way; none = none; step = step; there = is.there; is = at; level = is.level; marked = is.marked; stands = is.stands; given = is.given }
+    record {
+      under_way = is.under_way;
+      none = none;
+      step = step;
+      there = is.there;
+      is = at;
+      level =
+          is.level;
+      marked = is.marked;
+      stands = is.stands;
+      given = is.given;
+    }
 
 -- while more are open, the assignment isn't a decision
-pub not_decided : (clauses : List (List Lit)) (trail : Assigned) (old now : Walk) (step : Step) → IsResolving clauses trail old now step → 0 < now.unresolved → step.reason ≡ None → ⊥
+pub not_decided : (clauses : List (List Lit)) (trail : Assigned) (old now : Walk) (step : Step)
+    → IsResolving clauses trail old now step → 0 < now.unresolved → step.reason ≡ None → ⊥
 not_decided clauses trail old now step is some none =
     let level : step.level ≡ present_level (take now.at trail.steps) + 1 =
-    (step_at trail now.at step is.under_way.is_trail is.there).level ∙ ap (next_level (present_level (take now.at trail.steps))) none in
+    (step_at trail now.at step is.under_way.is_trail is.there).level
+    ∙ ap (next_level (present_level (take now.at trail.steps))) none in
     let count : count_by (is_open now.marks.items now.level) (take now.at trail.steps) ≡ 0 =
     count_none (is_open now.marks.items now.level) (take now.at trail.steps)
-    (All-weaker (λ s. s.level ≤ present_level (take now.at trail.steps)) (λ s. is_open now.marks.items now.level s ≡ false)
-    (λ s below. closed now.marks.items now.level s (λ same. absurd (omega (arith, below, same, level, is.level)))) (take now.at trail.steps) (below_present (take now.at trail.steps))) in
+    (All-weaker (λ s. s.level ≤ present_level (take now.at trail.steps))
+    (λ s. is_open now.marks.items now.level s ≡ false)
+    (λ s below. closed now.marks.items now.level s
+    (λ same. absurd (omega (arith, below, same, level, is.level)))) (take now.at trail.steps)
+    (below_present (take now.at trail.steps))) in
     omega (arith, count, is.under_way.counted, some)
   where
-    closed : (marks : List Bool) (level : ℕ) (s : Step) → (s.level ≡ level → ⊥) → is_open marks level s ≡ false
-    closed marks level s other = elim (cases_Bool (is_open marks level s)) [ inl is ↦ absurd (other (open_parts marks level s is).1) | inr closed_one ↦ closed_one ]
+    closed : (marks : List Bool) (level : ℕ) (s : Step) → (s.level ≡ level → ⊥)
+        → is_open marks level s ≡ false
+    closed marks level s other =
+        elim (cases_Bool (is_open marks level s)) [
+          | inl is ↦ absurd (other (open_parts marks level s is).1)
+          | inr closed_one ↦
+              closed_one
+        ]
 
 -- the reason of the assignment
-pub reason_at : (clauses : List (List Lit)) (trail : Assigned) (old now : Walk) (step : Step) (why : ClauseRef) → IsResolving clauses trail old now step → IsTrailOf trail.steps clauses → step.reason ≡ Some why
+pub reason_at : (clauses : List (List Lit)) (trail : Assigned) (old now : Walk) (step : Step)
+    (why : ClauseRef) → IsResolving clauses trail old now step → IsTrailOf trail.steps clauses
+    → step.reason ≡ Some why
     → IsReasonFor clauses (take now.at trail.steps) step.lit why
 reason_at clauses trail old now step why is of some = of now.at step why is.there some
 
 -- its literals may be noted
-pub reason_notable : (clauses : List (List Lit)) (trail : Assigned) (old now : Walk) (step : Step) (why : ClauseRef) (lits : List Lit) → IsResolving clauses trail old now step → IsTrailOf trail.steps clauses
-    → step.reason ≡ Some why → slice_get clauses why.0 ≡ Some lits → All (IsNotable trail now.at) lits
+pub reason_notable : (clauses : List (List Lit)) (trail : Assigned) (old now : Walk) (step : Step)
+    (why : ClauseRef) (lits : List Lit) → IsResolving clauses trail old now step
+    → IsTrailOf trail.steps clauses
+    → step.reason ≡ Some why → slice_get clauses why.0 ≡ Some lits
+    → All (IsNotable trail now.at) lits
 reason_notable clauses trail old now step why lits is of some named =
     let reason = of now.at step why is.there some in
     let there = step_at trail now.at step is.under_way.is_trail is.there in
@@ -75,54 +125,79 @@ reason_notable clauses trail old now step why lits is of some named =
     elim (cases_lit (get_or reason.clause k d) step.lit) [
       | inl same ↦ record {
         over = subst (IsOver trail.vars) (sym same) there.over;
-        before = λ wrong. absurd (yes_no (sym (ap (λ o. value_by o step.lit) there.found ∙ ap (λ b. cond b Yes No) (eq-eqb step.lit.0 step.lit.0 refl)) ∙ subst (IsFalse trail.steps) same wrong));
+        before =
+            λ wrong. absurd
+            (yes_no
+            (sym
+            (ap (λ o. value_by o step.lit) there.found
+            ∙ ap (λ b. cond b Yes No) (eq-eqb step.lit.0 step.lit.0 refl))
+            ∙ subst (IsFalse trail.steps) same wrong));
       }
       | inr other ↦
           let before = reason.others k d inside other in
-          record { over = false_over trail (get_or reason.clause k d) is.under_way.is_trail (false_later now.at trail.steps (get_or reason.clause k d) before); before = λ wrong. before }
+          record {
+            over =
+                false_over trail (get_or reason.clause k d) is.under_way.is_trail
+                (false_later now.at trail.steps (get_or reason.clause k d) before);
+            before =
+                λ wrong. before;
+          }
     ])
   where
     yes_no : Yes ≡ No → ⊥
     yes_no same = absurd (cc)
 
 -- the literals of a clause of the store stand in it
-pub all_stand : (clauses : List (List Lit)) (at : ℕ) (lits : List Lit) → slice_get clauses at ≡ Some lits → All (StandsIn clauses) lits
+pub all_stand : (clauses : List (List Lit)) (at : ℕ) (lits : List Lit)
+    → slice_get clauses at ≡ Some lits → All (StandsIn clauses) lits
 all_stand clauses at lits named k d inside =
-    any_from (λ clause. Contains clause (get_or lits k d)) clauses lits (here_at clauses at lits named) (All-contains_itself lits k d inside)
+    any_from (λ clause. Contains clause (get_or lits k d)) clauses lits
+    (here_at clauses at lits named) (All-contains_itself lits k d inside)
 
 -- an assignment is replaced, and the next open one is passed
-pub resolving_goes_on : (clauses : List (List Lit)) (trail : Assigned) (old now noted new : Walk) (step next : Step) (why : ClauseRef) (lits : List Lit) → IsResolving clauses trail old now step
-    → IsTrailOf trail.steps clauses → step.reason ≡ Some why → slice_get clauses why.0 ≡ Some lits → NotesAll trail now noted lits → GoesBack trail noted new next → IsResolving clauses trail old new next
+pub resolving_goes_on : (clauses : List (List Lit)) (trail : Assigned) (old now noted new : Walk)
+    (step next : Step) (why : ClauseRef) (lits : List Lit) → IsResolving clauses trail old now step
+    → IsTrailOf trail.steps clauses → step.reason ≡ Some why → slice_get clauses why.0 ≡ Some lits
+    → NotesAll trail now noted lits → GoesBack trail noted new next
+    → IsResolving clauses trail old new next
 resolving_goes_on clauses trail old now noted new step next why lits is of some named notes back =
     record {
       under_way = back.under_way;
       there = back.there;
       level = back.level;
       marked = back.marked;
-      stands = λ before. back.stands clauses (notes.stands clauses (all_stand clauses why.0 lits named) (is.stands before));
+      stands =
+          λ before. back.stands clauses
+          (notes.stands clauses (all_stand clauses why.0 lits named) (is.stands before));
       given = λ lit before.
           back.given clauses lit
-          (given_resolved clauses trail now noted lits step why lit of (of now.at step why is.there some) named notes (is.given lit before));
+          (given_resolved clauses trail now noted lits step why lit of
+          (of now.at step why is.there some) named notes (is.given lit before));
     }
 
 -- so it has a reason
-pub some_reason : (clauses : List (List Lit)) (trail : Assigned) (old now : Walk) (step : Step) → IsResolving clauses trail old now step → 0 < now.unresolved → IsSome step.reason
-some_reason clauses trail old now step is some = go step.reason (not_decided clauses trail old now step is some)
+pub some_reason : (clauses : List (List Lit)) (trail : Assigned) (old now : Walk) (step : Step)
+    → IsResolving clauses trail old now step → 0 < now.unresolved → IsSome step.reason
+some_reason clauses trail old now step is some =
+    go step.reason (not_decided clauses trail old now step is some)
   where
     go : (reason : Option ClauseRef) → (reason ≡ None → ⊥) → IsSome reason
     go None decided = absurd (decided refl)
     go (Some why) decided = refl
 
 -- a reason names a clause
-pub reason_within : (clauses : List (List Lit)) (trail : Assigned) (old now : Walk) (step : Step) (why : ClauseRef) → IsResolving clauses trail old now step → IsTrailOf trail.steps clauses
+pub reason_within : (clauses : List (List Lit)) (trail : Assigned) (old now : Walk) (step : Step)
+    (why : ClauseRef) → IsResolving clauses trail old now step → IsTrailOf trail.steps clauses
     → step.reason ≡ Some why → why.0 < length clauses
 reason_within clauses trail old now step why is of some =
-    let reason = of now.at step why is.there some in slice_get_within clauses why.0 reason.clause reason.named
+    let reason = of now.at step why is.there some in
+    slice_get_within clauses why.0 reason.clause reason.named
 
 -- ---- what was learned
 
 -- the walk from the conflict to its end
-pub record IsDone (clauses : List (List Lit)) (trail : Assigned) (conflict : List Lit) (begun noted done : Walk) (lit : Lit) : Type 0 where
+pub record IsDone (clauses : List (List Lit)) (trail : Assigned) (conflict : List Lit)
+    (begun noted done : Walk) (lit : Lit) : Type 0 where
   pub of : IsTrailOf trail.steps clauses
   pub here : Contains clauses conflict
   pub wrong : All (IsFalse trail.steps) conflict
@@ -131,12 +206,16 @@ pub record IsDone (clauses : List (List Lit)) (trail : Assigned) (conflict : Lis
   pub resolves : ResolvesTo clauses trail noted done lit
 
 -- nothing is passed when the conflict is noted
-noted_all : (trail : Assigned) (conflict : List Lit) (begun noted : Walk) → Begins trail begun → NotesAll trail begun noted conflict → take noted.at trail.steps ≡ trail.steps
-noted_all trail conflict begun noted begins notes = ap (λ n. take n trail.steps) (notes.later.at ∙ begins.at) ∙ take-length trail.steps
+noted_all : (trail : Assigned) (conflict : List Lit) (begun noted : Walk) → Begins trail begun
+    → NotesAll trail begun noted conflict → take noted.at trail.steps ≡ trail.steps
+noted_all trail conflict begun noted begins notes =
+    ap (λ n. take n trail.steps) (notes.later.at ∙ begins.at) ∙ take-length trail.steps
 
 -- a literal of the present level is open
-pub some_open : (trail : Assigned) (conflict : List Lit) (begun noted : Walk) → Begins trail begun → NotesAll trail begun noted conflict → All (IsFalse trail.steps) conflict
-    → Any (λ lit. level_at trail.steps lit ≡ present_level trail.steps) conflict → 0 < present_level trail.steps → 0 < noted.unresolved
+pub some_open : (trail : Assigned) (conflict : List Lit) (begun noted : Walk) → Begins trail begun
+    → NotesAll trail begun noted conflict → All (IsFalse trail.steps) conflict
+    → Any (λ lit. level_at trail.steps lit ≡ present_level trail.steps) conflict
+    → 0 < present_level trail.steps → 0 < noted.unresolved
 some_open trail conflict begun noted begins notes wrong (at, lit, within, is, level) above =
     elim (cases_eq noted.unresolved 0) [
       | inl none ↦ absurd (false≢true (sym (closed none) ∙ opened))
@@ -147,131 +226,212 @@ some_open trail conflict begun noted begins notes wrong (at, lit, within, is, le
     no_lit = All-contains (IsFalse trail.steps) conflict lit wrong (at, within, is)
 
     marked : IsMarked noted.marks.items (variable lit)
-    marked = All-contains (λ l. IsFalse trail.steps l → level_at trail.steps l ≢ 0 → IsMarked noted.marks.items (variable l)) conflict lit notes.noted (at, within, is)
-        (All-contains (IsFalse trail.steps) conflict lit wrong (at, within, is)) (λ zero_level. omega (arith, zero_level, level, above))
+    marked =
+        All-contains
+        (λ l. IsFalse trail.steps l → level_at trail.steps l ≢ 0
+        → IsMarked noted.marks.items (variable l)) conflict lit notes.noted (at, within, is)
+        (All-contains (IsFalse trail.steps) conflict lit wrong (at, within, is))
+        (λ zero_level. omega (arith, zero_level, level, above))
 
-    opened : let by = refuter trail.steps lit (All-contains (IsFalse trail.steps) conflict lit wrong (at, within, is)) in is_open noted.marks.items noted.level by.step ≡ true
+    opened : let by =
+        refuter trail.steps lit
+        (All-contains (IsFalse trail.steps) conflict lit wrong (at, within, is)) in
+        is_open noted.marks.items noted.level by.step ≡ true
     opened =
-        let by = refuter trail.steps lit (All-contains (IsFalse trail.steps) conflict lit wrong (at, within, is)) in
+        let by =
+        refuter trail.steps lit
+        (All-contains (IsFalse trail.steps) conflict lit wrong (at, within, is)) in
         open_from noted.marks.items noted.level by.step
         (subst (IsMarked noted.marks.items) (sym by.same)
-        (All-contains (λ l. IsFalse trail.steps l → level_at trail.steps l ≢ 0 → IsMarked noted.marks.items (variable l)) conflict lit notes.noted (at, within, is)
-        (All-contains (IsFalse trail.steps) conflict lit wrong (at, within, is)) (λ zero_level. omega (arith, zero_level, level, above))))
-        (sym (level_found trail.steps lit by.step by.found).0 ∙ level ∙ sym notes.under_way.level_is)
+        (All-contains
+        (λ l. IsFalse trail.steps l → level_at trail.steps l ≢ 0
+        → IsMarked noted.marks.items (variable l)) conflict lit notes.noted (at, within, is)
+        (All-contains (IsFalse trail.steps) conflict lit wrong (at, within, is))
+        (λ zero_level. omega (arith, zero_level, level, above))))
+        (sym (level_found trail.steps lit by.step by.found).0 ∙ level
+        ∙ sym notes.under_way.level_is)
 
-    closed : noted.unresolved ≡ 0 → let by = refuter trail.steps lit (All-contains (IsFalse trail.steps) conflict lit wrong (at, within, is)) in is_open noted.marks.items noted.level by.step ≡ false
+    closed : noted.unresolved ≡ 0 → let by =
+        refuter trail.steps lit
+        (All-contains (IsFalse trail.steps) conflict lit wrong (at, within, is)) in
+        is_open noted.marks.items noted.level by.step ≡ false
     closed none =
-        let by = refuter trail.steps lit (All-contains (IsFalse trail.steps) conflict lit wrong (at, within, is)) in
-        All-contains (λ s. is_open noted.marks.items noted.level s ≡ false) (take noted.at trail.steps) by.step
-        (none_counted (is_open noted.marks.items noted.level) (take noted.at trail.steps) (sym notes.under_way.counted ∙ none))
-        (subst (λ steps. Contains steps by.step) (sym (ap (λ n. take n trail.steps) (notes.later.at ∙ begins.at) ∙ take-length trail.steps)) by.here)
+        let by =
+        refuter trail.steps lit
+        (All-contains (IsFalse trail.steps) conflict lit wrong (at, within, is)) in
+        All-contains (λ s. is_open noted.marks.items noted.level s ≡ false)
+        (take noted.at trail.steps) by.step
+        (none_counted (is_open noted.marks.items noted.level) (take noted.at trail.steps)
+        (sym notes.under_way.counted ∙ none))
+        (subst (λ steps. Contains steps by.step)
+        (sym
+        (ap (λ n. take n trail.steps) (notes.later.at ∙ begins.at)
+        ∙ take-length trail.steps)) by.here)
 
 -- the answer is of the present level
-answer_found : (clauses : List (List Lit)) (trail : Assigned) (noted done : Walk) (lit : Lit) (to : ResolvesTo clauses trail noted done lit) → step_of trail.steps (variable lit) ≡ Some to.step
+answer_found : (clauses : List (List Lit)) (trail : Assigned) (noted done : Walk) (lit : Lit)
+    (to : ResolvesTo clauses trail noted done lit)
+    → step_of trail.steps (variable lit) ≡ Some to.step
 answer_found clauses trail noted done lit to =
-    ap (step_of trail.steps) (ap variable to.is ∙ variable-negation to.step.lit) ∙ (step_at trail done.at to.step to.under_way.is_trail to.there).found
+    ap (step_of trail.steps) (ap variable to.is ∙ variable-negation to.step.lit)
+    ∙ (step_at trail done.at to.step to.under_way.is_trail to.there).found
 
-answer_level : (clauses : List (List Lit)) (trail : Assigned) (noted done : Walk) (lit : Lit) (to : ResolvesTo clauses trail noted done lit) → level_at trail.steps lit ≡ done.level
-answer_level clauses trail noted done lit to = (level_found trail.steps lit to.step (answer_found clauses trail noted done lit to)).0 ∙ to.level
+answer_level : (clauses : List (List Lit)) (trail : Assigned) (noted done : Walk) (lit : Lit)
+    (to : ResolvesTo clauses trail noted done lit) → level_at trail.steps lit ≡ done.level
+answer_level clauses trail noted done lit to =
+    (level_found trail.steps lit to.step (answer_found clauses trail noted done lit to)).0
+    ∙ to.level
 
 -- the other literals have other variables
-apart : (clauses : List (List Lit)) (trail : Assigned) (noted done : Walk) (lit other : Lit) → ResolvesTo clauses trail noted done lit → IsLower trail.steps done.marks.items done.level other → variable other ≡ variable lit → ⊥
+apart : (clauses : List (List Lit)) (trail : Assigned) (noted done : Walk) (lit other : Lit)
+    → ResolvesTo clauses trail noted done lit
+    → IsLower trail.steps done.marks.items done.level other → variable other ≡ variable lit → ⊥
 apart clauses trail noted done lit other to low same =
-    let level : level_at trail.steps other ≡ level_at trail.steps lit = ap (λ v. unwrap_or (level_of trail.steps v) 0) same in
+    let level : level_at trail.steps other ≡ level_at trail.steps lit =
+    ap (λ v. unwrap_or (level_of trail.steps v) 0) same in
     omega (arith, low.below, level, answer_level clauses trail noted done lit to)
 
-pub learned_refuted : (clauses : List (List Lit)) (trail : Assigned) (conflict : List Lit) (begun noted done : Walk) (lit : Lit) → IsDone clauses trail conflict begun noted done lit
+pub learned_refuted : (clauses : List (List Lit)) (trail : Assigned) (conflict : List Lit)
+    (begun noted done : Walk) (lit : Lit) → IsDone clauses trail conflict begun noted done lit
     → Refutes clauses (negations (done.clause ++ lit ∷ []))
 learned_refuted clauses trail conflict begun noted done lit is =
-    any_from (λ clause. All (λ l. InClosure clauses (negations (done.clause ++ lit ∷ [])) (negation l)) clause) clauses conflict is.here
+    any_from
+    (λ clause. All (λ l. InClosure clauses (negations (done.clause ++ lit ∷ [])) (negation l))
+    clause) clauses conflict is.here
     (λ k d inside known has closed.
     is.resolves.given (negation (get_or conflict k d))
     (λ other knowing.
-    noted_known clauses trail noted other is.notes.under_way is.of knowing.closed knowing.has_given knowing.has_passing (get_or conflict k d)
-    (subst (λ steps. IsFalse steps (get_or conflict k d)) (sym (noted_all trail conflict begun noted is.begins is.notes)) (is.wrong k d inside))
+    noted_known clauses trail noted other is.notes.under_way is.of knowing.closed knowing.has_given
+    knowing.has_passing (get_or conflict k d)
+    (subst (λ steps. IsFalse steps (get_or conflict k d))
+    (sym (noted_all trail conflict begun noted is.begins is.notes)) (is.wrong k d inside))
     (is.notes.noted k d inside (is.wrong k d inside)))
     known
     (record {
       closed = closed;
       has_given = All-cons (Contains known) is.resolves.step.lit (negations done.clause)
-          (subst (Contains known) (ap negation is.resolves.is ∙ negation-negation is.resolves.step.lit)
-          (All-contains (Contains known) (negations (done.clause ++ lit ∷ [])) (negation lit) has (has_mapped negation (done.clause ++ lit ∷ []) lit (Contains-push done.clause lit))))
-          (all_through (Contains known) (negations done.clause) (negations (done.clause ++ lit ∷ []))
-          (negations_within done.clause (done.clause ++ lit ∷ []) (λ j e within. Contains-append_left done.clause (lit ∷ []) (get_or done.clause j e) (All-contains_itself done.clause j e within))) has);
-      has_passing = All-weaker (λ s. is_open done.marks.items done.level s ≡ false) (λ s. IsTrue (is_open done.marks.items done.level s) → Contains known s.lit)
-          (λ s closed_one open_one. absurd (false≢true (sym closed_one ∙ open_one))) (take done.at trail.steps)
-          (none_counted (is_open done.marks.items done.level) (take done.at trail.steps) (sym is.resolves.under_way.counted ∙ is.resolves.none));
+          (subst (Contains known)
+          (ap negation is.resolves.is ∙ negation-negation is.resolves.step.lit)
+          (All-contains (Contains known) (negations (done.clause ++ lit ∷ [])) (negation lit) has
+          (has_mapped negation (done.clause ++ lit ∷ []) lit (Contains-push done.clause lit))))
+          (all_through (Contains known) (negations done.clause)
+          (negations (done.clause ++ lit ∷ []))
+          (negations_within done.clause (done.clause ++ lit ∷ [])
+          (λ j e within. Contains-append_left done.clause (lit ∷ []) (get_or done.clause j e)
+          (All-contains_itself done.clause j e within))) has);
+      has_passing =
+          All-weaker (λ s. is_open done.marks.items done.level s ≡ false)
+          (λ s. IsTrue (is_open done.marks.items done.level s) → Contains known s.lit)
+          (λ s closed_one open_one. absurd (false≢true (sym closed_one ∙ open_one)))
+          (take done.at trail.steps)
+          (none_counted (is_open done.marks.items done.level) (take done.at trail.steps)
+          (sym is.resolves.under_way.counted ∙ is.resolves.none));
     }))
 
-pub learned_stands : (clauses : List (List Lit)) (trail : Assigned) (conflict : List Lit) (begun noted done : Walk) (lit : Lit) → IsDone clauses trail conflict begun noted done lit → All (StandsIn clauses) (done.clause ++ lit ∷ [])
+pub learned_stands : (clauses : List (List Lit)) (trail : Assigned) (conflict : List Lit)
+    (begun noted done : Walk) (lit : Lit) → IsDone clauses trail conflict begun noted done lit
+    → All (StandsIn clauses) (done.clause ++ lit ∷ [])
 learned_stands clauses trail conflict begun noted done lit is =
     let stand = is.resolves.stands (is.notes.stands clauses
-    (λ k d inside. any_from (λ clause. Contains clause (get_or conflict k d)) clauses conflict is.here (All-contains_itself conflict k d inside)) (is.begins.stands clauses)) in
+    (λ k d inside. any_from (λ clause. Contains clause (get_or conflict k d)) clauses conflict
+    is.here (All-contains_itself conflict k d inside)) (is.begins.stands clauses)) in
     All-push (StandsIn clauses) done.clause lit stand.lower
     (subst (StandsIn clauses) (sym is.resolves.is)
-    (All-contains (λ s. IsMarked done.marks.items (variable s.lit) → StandsIn clauses (negation s.lit)) trail.steps is.resolves.step stand.marked
+    (All-contains
+    (λ s. IsMarked done.marks.items (variable s.lit) → StandsIn clauses (negation s.lit))
+    trail.steps is.resolves.step stand.marked
     (here_at trail.steps done.at is.resolves.step is.resolves.there) is.resolves.marked))
 
-pub learned_false : (clauses : List (List Lit)) (trail : Assigned) (noted done : Walk) (lit : Lit) → ResolvesTo clauses trail noted done lit → All (IsFalse trail.steps) (done.clause ++ lit ∷ [])
+pub learned_false : (clauses : List (List Lit)) (trail : Assigned) (noted done : Walk) (lit : Lit)
+    → ResolvesTo clauses trail noted done lit → All (IsFalse trail.steps) (done.clause ++ lit ∷ [])
 learned_false clauses trail noted done lit to =
-    All-push (IsFalse trail.steps) done.clause lit (λ k d inside. (to.under_way.lower k d inside).is_false)
+    All-push (IsFalse trail.steps) done.clause lit
+    (λ k d inside. (to.under_way.lower k d inside).is_false)
     (ap (λ o. value_by o lit) (answer_found clauses trail noted done lit to)
-    ∙ ap (λ b. cond b Yes No) (ne_eqb to.step.lit.0 lit.0 (λ same. negation_differs to.step.lit (same ∙ ap (λ l. l.0) to.is))))
+    ∙ ap (λ b. cond b Yes No)
+    (ne_eqb to.step.lit.0 lit.0
+    (λ same. negation_differs to.step.lit (same ∙ ap (λ l. l.0) to.is))))
 
-pub learned_once : (clauses : List (List Lit)) (trail : Assigned) (noted done : Walk) (lit : Lit) → ResolvesTo clauses trail noted done lit → HasNoVariableTwice (done.clause ++ lit ∷ [])
+pub learned_once : (clauses : List (List Lit)) (trail : Assigned) (noted done : Walk) (lit : Lit)
+    → ResolvesTo clauses trail noted done lit → HasNoVariableTwice (done.clause ++ lit ∷ [])
 learned_once clauses trail noted done lit to =
     all_pairs_push (λ one two. variable one ≢ variable two) done.clause lit to.under_way.once
-    (λ k d inside. apart clauses trail noted done lit (get_or done.clause k d) to (to.under_way.lower k d inside))
+    (λ k d inside. apart clauses trail noted done lit (get_or done.clause k d) to
+    (to.under_way.lower k d inside))
 
-pub learned_over : (clauses : List (List Lit)) (trail : Assigned) (noted done : Walk) (lit : Lit) → ResolvesTo clauses trail noted done lit → All (IsOver trail.vars) (done.clause ++ lit ∷ [])
+pub learned_over : (clauses : List (List Lit)) (trail : Assigned) (noted done : Walk) (lit : Lit)
+    → ResolvesTo clauses trail noted done lit → All (IsOver trail.vars) (done.clause ++ lit ∷ [])
 learned_over clauses trail noted done lit to =
-    All-weaker (IsFalse trail.steps) (IsOver trail.vars) (λ l. false_over trail l to.under_way.is_trail) (done.clause ++ lit ∷ []) (learned_false clauses trail noted done lit to)
+    All-weaker (IsFalse trail.steps) (IsOver trail.vars)
+    (λ l. false_over trail l to.under_way.is_trail) (done.clause ++ lit ∷ [])
+    (learned_false clauses trail noted done lit to)
 
-pub learned_asserting : (clauses : List (List Lit)) (trail : Assigned) (noted done : Walk) (lit : Lit) → ResolvesTo clauses trail noted done lit → IsAsserting trail.steps (done.clause ++ lit ∷ []) lit
+pub learned_asserting : (clauses : List (List Lit)) (trail : Assigned) (noted done : Walk)
+    (lit : Lit) → ResolvesTo clauses trail noted done lit
+    → IsAsserting trail.steps (done.clause ++ lit ∷ []) lit
 learned_asserting clauses trail noted done lit to =
     record {
       here = Contains-push done.clause lit;
-      present = (level_found trail.steps lit to.step (answer_found clauses trail noted done lit to)).1 ∙ ap Some (to.level ∙ to.under_way.level_is);
-      others = All-push (λ other. other ≢ lit → level_at trail.steps other < present_level trail.steps) done.clause lit
-          (λ k d inside differs. subst (λ n. level_at trail.steps (get_or done.clause k d) < n) to.under_way.level_is (to.under_way.lower k d inside).below)
+      present =
+          (level_found trail.steps lit to.step (answer_found clauses trail noted done lit to)).1
+          ∙ ap Some (to.level ∙ to.under_way.level_is);
+      others =
+          All-push (λ other. other ≢ lit → level_at trail.steps other < present_level trail.steps)
+          done.clause lit
+          (λ k d inside differs. subst (λ n. level_at trail.steps (get_or done.clause k d) < n)
+          to.under_way.level_is (to.under_way.lower k d inside).below)
           (λ differs. absurd (differs refl));
     }
 
 filter_all : {X : Type 0} (p : X → Bool) (xs : List X) → All (λ x. p x ≡ true) xs → filter p xs ≡ xs
 filter_all p [] all = refl
 filter_all p (x ∷ xs) all =
-    ap₂ (λ b ys. cond b (x ∷ ys) ys) (All-head (λ y. p y ≡ true) x xs all) (filter_all p xs (All-tail (λ y. p y ≡ true) x xs all))
+    ap₂ (λ b ys. cond b (x ∷ ys) ys) (All-head (λ y. p y ≡ true) x xs all)
+    (filter_all p xs (All-tail (λ y. p y ≡ true) x xs all))
 
 -- the others are the literals of lower levels
-pub learned_others : (clauses : List (List Lit)) (trail : Assigned) (noted done : Walk) (lit : Lit) → ResolvesTo clauses trail noted done lit → others (done.clause ++ lit ∷ []) lit ≡ done.clause
+pub learned_others : (clauses : List (List Lit)) (trail : Assigned) (noted done : Walk) (lit : Lit)
+    → ResolvesTo clauses trail noted done lit → others (done.clause ++ lit ∷ []) lit ≡ done.clause
 learned_others clauses trail noted done lit to =
     filter-append (λ other. not (eqb other.0 lit.0)) done.clause (lit ∷ [])
     ∙ ap₂ (λ xs b. xs ++ cond b (lit ∷ []) [])
     (filter_all (λ other. not (eqb other.0 lit.0)) done.clause
     (λ k d inside. not_from_false (eqb (get_or done.clause k d).0 lit.0)
-    (ne_eqb (get_or done.clause k d).0 lit.0 (λ same. apart clauses trail noted done lit (get_or done.clause k d) to (to.under_way.lower k d inside) (ap (λ n. n / 2) same)))))
+    (ne_eqb (get_or done.clause k d).0 lit.0
+    (λ same. apart clauses trail noted done lit (get_or done.clause k d) to
+    (to.under_way.lower k d inside) (ap (λ n. n / 2) same)))))
     (ap not (eq-eqb lit.0 lit.0 refl))
     ∙ append-nil done.clause
 
 -- one literal more
-pub greatest_push : (steps : List Step) (xs : List Lit) (x : Lit) → greatest_level steps (xs ++ x ∷ []) ≡ max (greatest_level steps xs) (level_at steps x)
+pub greatest_push : (steps : List Step) (xs : List Lit) (x : Lit)
+    → greatest_level steps (xs ++ x ∷ []) ≡ max (greatest_level steps xs) (level_at steps x)
 greatest_push steps [] x = omega arith
 greatest_push steps (y ∷ xs) x = omega (arith, greatest_push steps xs x)
 
 -- the greatest level of one literal more of a row
 pub greatest_more : (steps : List Step) (lits : List Lit) (at : ℕ) (d : Lit) → at < length lits
-    → greatest_level steps (take (at + 1) lits) ≡ max (greatest_level steps (take at lits)) (level_at steps (get_or lits at d))
-greatest_more steps lits at d within = ap (greatest_level steps) (take_more lits at d within) ∙ greatest_push steps (take at lits) (get_or lits at d)
+    → greatest_level steps (take (at + 1) lits)
+    ≡ max (greatest_level steps (take at lits)) (level_at steps (get_or lits at d))
+greatest_more steps lits at d within =
+    ap (greatest_level steps) (take_more lits at d within)
+    ∙ greatest_push steps (take at lits) (get_or lits at d)
 
 -- ---- the conflict
 
-pub conflict_false : (clauses : List (List Lit)) (steps : List Step) (at : ClauseRef) (lits : List Lit) → IsConflict clauses steps at → slice_get clauses at.0 ≡ Some lits → All (IsFalse steps) lits
-conflict_false clauses steps at lits is named = subst (All (IsFalse steps)) (same_Some is.clause lits (sym is.named ∙ named)) is.is_false
+pub conflict_false : (clauses : List (List Lit)) (steps : List Step) (at : ClauseRef)
+    (lits : List Lit) → IsConflict clauses steps at → slice_get clauses at.0 ≡ Some lits
+    → All (IsFalse steps) lits
+conflict_false clauses steps at lits is named =
+    subst (All (IsFalse steps)) (same_Some is.clause lits (sym is.named ∙ named)) is.is_false
 
 -- its literals may be noted
-pub conflict_notable : (trail : Assigned) (begun : Walk) (lits : List Lit) → Begins trail begun → All (IsFalse trail.steps) lits → All (IsNotable trail begun.at) lits
+pub conflict_notable : (trail : Assigned) (begun : Walk) (lits : List Lit) → Begins trail begun
+    → All (IsFalse trail.steps) lits → All (IsNotable trail begun.at) lits
 conflict_notable trail begun lits begins wrong k d inside =
     record {
       over = false_over trail (get_or lits k d) begins.under_way.is_trail (wrong k d inside);
-      before = λ is. subst (λ steps. IsFalse steps (get_or lits k d)) (sym (ap (λ n. take n trail.steps) begins.at ∙ take-length trail.steps)) is;
+      before =
+          λ is. subst (λ steps. IsFalse steps (get_or lits k d))
+          (sym (ap (λ n. take n trail.steps) begins.at ∙ take-length trail.steps)) is;
     }

@@ -1,5 +1,7 @@
 -- What the cells of a core hold while it is made. No public clause cites this module.
-use Rattle.std.specs.Prelude.{◌≡◌, ◌≢◌, ◌<◌, ◌≤◌, ◌+◌, ◌-◌, ◌++◌, ◌⊎◌, ◌==◌, ℕ, Bool, List, [], ◌∷◌, length, replicate, slice_get, slice_set, slice_index_or, All, Any, Contains, None, Some}
+use Rattle.std.specs.Prelude.{◌≡◌, ◌≢◌, ◌<◌, ◌≤◌, ◌+◌, ◌-◌, ◌++◌, ◌⊎◌, ◌==◌, ℕ, Bool, List, [], ◌∷◌}
+use Rattle.std.specs.Prelude.{length, replicate, slice_get, slice_set, slice_index_or, All, Any}
+use Rattle.std.specs.Prelude.{Contains, None, Some}
 use Rattle.clause_store.specs.declared.literal.Lit.{Lit}
 use Rattle.clause_store.specs.declared.step.Step.{Step}
 use Rattle.clause_store.specs.Clause.{variable, negation}
@@ -39,14 +41,16 @@ pub record AreCells (steps : List Step) (last : ℕ) (core : List Lit) : Type 0 
       → slice_get steps place ≡ Some step → step.level ≡ 0
 
 -- decisions stand behind the failed literal and give its negation: none at level 0
-pub record AddsDecisions (clauses : List (List Lit)) (steps : List Step) (failed : Lit) (core : List Lit) : Type 0 where
+pub record AddsDecisions (clauses : List (List Lit)) (steps : List Step) (failed : Lit)
+    (core : List Lit) : Type 0 where
   pub decisions : List Lit
   pub is : core ≡ failed ∷ decisions
   pub decided : All (IsDecision steps) decisions
   pub gives : InClosure clauses decisions (negation failed)
   pub alone : level_at steps failed ≡ 0 → decisions ≡ []
 
--- a blank was added for each assignment from `last` back to one at `low`, and all earlier ones are of
+-- a blank was added for each assignment from `last` back to one at `low`, and all earlier ones are
+-- of
 -- level 0
 pub record AddsBlanks (trail : Assigned) (last : ℕ) (old new : List Lit) : Type 0 where
   pub is_trail : IsTrail trail
@@ -70,7 +74,8 @@ pub record MarksCell (steps : List Step) (last : ℕ) (lit : Lit) (old new : Lis
       → slice_get steps place ≡ Some step → new ≡ slice_set old (last + 1 - place) step.lit
 
 -- a cell has the literal of the assignment of a variable
-pub record IsMarkOf (steps : List Step) (last : ℕ) (core : List Lit) (at : ℕ) (lit : Lit) : Type 0 where
+pub record IsMarkOf (steps : List Step) (last : ℕ) (core : List Lit) (at : ℕ) (lit : Lit) :
+    Type 0 where
   pub place : ℕ
   pub step : Step
   pub found : place_of steps (variable lit) ≡ Some place
@@ -92,7 +97,8 @@ pub record MarksAll (steps : List Step) (last : ℕ) (lits old new : List Lit) :
   pub marked : All (IsMarkedIn steps last (length old) new) lits
 
 -- the literal of a cell, unless it is a decision, was replaced by others behind it that give it
-pub record Explains (clauses : List (List Lit)) (steps : List Step) (last at : ℕ) (old new : List Lit) : Type 0 where
+pub record Explains (clauses : List (List Lit)) (steps : List Step) (last at : ℕ)
+    (old new : List Lit) : Type 0 where
   pub sized : length new ≡ length old
   pub cells : AreCells steps last new
   pub before : (earlier : ℕ) → earlier < at → cell new earlier ≡ cell old earlier
@@ -102,7 +108,8 @@ pub record Explains (clauses : List (List Lit)) (steps : List Step) (last at : �
       → HasFilled known old
 
 -- all literals behind the failed one were replaced by decisions that give them
-pub record ExplainsAll (clauses : List (List Lit)) (steps : List Step) (last : ℕ) (old new : List Lit) : Type 0 where
+pub record ExplainsAll (clauses : List (List Lit)) (steps : List Step) (last : ℕ)
+    (old new : List Lit) : Type 0 where
   pub sized : length new ≡ length old
   pub cells : AreCells steps last new
   pub first : cell new 0 ≡ cell old 0

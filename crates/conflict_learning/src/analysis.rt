@@ -1,11 +1,13 @@
-// The analysis of a conflict: from the clause that is false, the last literal of the present level is
+// The analysis of a conflict: from the clause that is false, the last literal of the present level
+// is
 // replaced by the other literals of its reason, until one literal of that level is left.
 ghost use Rattle.std.specs.Prelude.{◌≡◌, ◌<◌, All, OnOk};
 ghost use Rattle.clause_store.specs.Clause.{HasNoVariableTwice, IsOver};
 ghost use Rattle.clause_store.specs.Entailment.{Follows, Refutes, negations, others};
 ghost use Rattle.clause_store.specs.Standing.{IsConflict, IsFalse};
 ghost use Rattle.clause_store.specs.Trail.{IsTrailOf, present_level};
-ghost use Rattle.conflict_learning.specs.Analysis.{HasPresent, StandsIn, IsAsserting, greatest_level};
+ghost use Rattle.conflict_learning.specs.Analysis.{HasPresent, StandsIn, IsAsserting};
+ghost use Rattle.conflict_learning.specs.Analysis.{greatest_level};
 
 use crate::Learned;
 use crate::walk::{Walk, level_at};
@@ -35,8 +37,11 @@ pub fn analyse(
     ensures once { OnOk result (HasNoVariableTwice learned.new.clause) }
     ensures over { OnOk result (All (IsOver trail.now.vars) learned.new.clause) }
 
-    ensures asserting { OnOk result (IsAsserting trail.now.steps learned.new.clause learned.new.asserting) }
-    ensures back { OnOk result (learned.new.back ≡ greatest_level trail.now.steps (others learned.new.clause learned.new.asserting)) }
+    ensures asserting { OnOk result
+        (IsAsserting trail.now.steps learned.new.clause learned.new.asserting) }
+    ensures back { OnOk result
+        (learned.new.back ≡ greatest_level trail.now.steps
+        (others learned.new.clause learned.new.asserting)) }
 {
     let marks = learned.marks.take(alloc, trail.vars())?;
     let room = mem::replace(&mut learned.clause, Clause::open());
@@ -52,7 +57,8 @@ pub fn analyse(
     Ok(())
 }
 
-/// The greatest level of the literals, or 0. A search goes back to it before it learns from a clause
+/// The greatest level of the literals, or 0. A search goes back to it before it learns from a
+/// clause
 /// that is false.
 pub fn greatest_level(trail: &Trail, lits: &[Lit]) -> u32
     requires { All (IsOver trail.now.vars) lits.now }

@@ -1,13 +1,17 @@
 // Why an assumption is failed: the decisions that led to its being false. The core is the table
 // while they are sought. Behind the failed literal it has a cell for each assignment above level 0,
 // from the one of its variable back, the latest first. A cell is blank or has the literal of its
-// assignment. From the front on, each literal that a clause forced gives way to those that forced it.
-ghost use Rattle.std.specs.Prelude.{◌≡◌, ◌≤◌, ◌<◌, [], ◌∷◌, ◌+◌, ℕ, All, Some, length, filter, not, OnOk};
+// assignment. From the front on, each literal that a clause forced gives way to those that forced
+// it.
+ghost use Rattle.std.specs.Prelude.{◌≡◌, ◌≤◌, ◌<◌, [], ◌∷◌, ◌+◌, ℕ, All, Some, length, filter, not};
+ghost use Rattle.std.specs.Prelude.{OnOk};
 ghost use Rattle.clause_store.specs.Clause.{variable, IsOver};
 ghost use Rattle.clause_store.specs.Standing.{IsFalse};
 ghost use Rattle.clause_store.specs.Trail.{IsTrailOf, level_of, place_of};
 ghost use Rattle.conflict_learning.specs.AssumptionCore.{IsCore, CannotMeet};
-ghost use Rattle.conflict_learning.specs.Cells.{AddsDecisions, AddsBlanks, AreCells, is_blank, IsMarkable, MarksCell, MarksAll, Explains, ExplainsAll};
+ghost use Rattle.conflict_learning.specs.Cells.{AddsDecisions, AddsBlanks, AreCells, is_blank};
+ghost use Rattle.conflict_learning.specs.Cells.{IsMarkable, MarksCell, MarksAll, Explains};
+ghost use Rattle.conflict_learning.specs.Cells.{ExplainsAll};
 
 use clause_store::{Clause, Lit, NoMemory, Store, Trail};
 use std::alloc::Global;
@@ -30,7 +34,8 @@ pub fn final_core(
     requires is_false { IsFalse trail.now.steps failed }
     ensures core { OnOk result (IsCore trail.now.steps failed core.new) }
     ensures unmet { OnOk result (CannotMeet store.now core.new) }
-    ensures alone { OnOk result (level_of trail.now.steps (variable failed) ≡ Some 0 → core.new ≡ failed ∷ []) }
+    ensures alone { OnOk result
+        (level_of trail.now.steps (variable failed) ≡ Some 0 → core.new ≡ failed ∷ []) }
 {
     core.clear();
     core.push(alloc, failed)?;

@@ -26,7 +26,8 @@ fn learn_at_two_levels(alloc: Global, learned: &mut Learned) -> Result<(), NoMem
     analyse(alloc, &store, &trail, conflict, learned)
 }
 
-/// Learns that variable 2 is false. The decision was on variable 1, but all implications pass through
+/// Learns that variable 2 is false. The decision was on variable 1, but all implications pass
+/// through
 /// variable 2.
 fn learn_where_implications_meet(alloc: Global, learned: &mut Learned) -> Result<(), NoMemory> {
     let mut store = Store::open();

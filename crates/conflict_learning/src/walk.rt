@@ -1,14 +1,19 @@
-// The walk back over a trail. The clause so far has the noted literals of lower levels and, for each
-// open assignment, the literal that it made false. An assignment is open where its variable is marked
-// and it is of the present level and not passed yet. The table of marks and the clause are lent by who
+// The walk back over a trail. The clause so far has the noted literals of lower levels and, for
+// each
+// open assignment, the literal that it made false. An assignment is open where its variable is
+// marked
+// and it is of the present level and not passed yet. The table of marks and the clause are lent by
+// who
 // walks, and given back at the end.
-ghost use Rattle.std.specs.Prelude.{◌≡◌, ◌≢◌, ◌<◌, ◌∷◌, [], ◌++◌, ◌^◌, ◌↔◌, ℕ, All, List, IsTrue, take, length, OnOk, IfOk};
+ghost use Rattle.std.specs.Prelude.{◌≡◌, ◌≢◌, ◌<◌, ◌∷◌, [], ◌++◌, ◌^◌, ◌↔◌, ℕ, All, List, IsTrue};
+ghost use Rattle.std.specs.Prelude.{take, length, OnOk, IfOk};
 ghost use Rattle.clause_store.specs.Clause.{variable, IsOver};
 ghost use Rattle.clause_store.specs.Standing.{IsFalse};
 ghost use Rattle.clause_store.specs.Trail.{IsTrailOf};
 ghost use Rattle.conflict_learning.specs.Analysis.{level_at};
 ghost use Rattle.conflict_learning.specs.Marks.{HasNoMark, is_open};
-ghost use Rattle.conflict_learning.specs.Walk.{Begins, IsUnderWay, IsNotable, IsNoted, Notes, NotesAll, GoesBack, ResolvesTo};
+ghost use Rattle.conflict_learning.specs.Walk.{Begins, IsUnderWay, IsNotable, IsNoted, Notes};
+ghost use Rattle.conflict_learning.specs.Walk.{NotesAll, GoesBack, ResolvesTo};
 
 use crate::marks::{unmark_lits, unmark_steps};
 use clause_store::{Clause, Lit, NoMemory, Step, Store, Trail, Value};
@@ -107,7 +112,8 @@ impl Walk {
         steps[self.at]
     }
 
-    /// Replaces open literals by those of their reasons, from the last one on, until one is left. That
+    /// Replaces open literals by those of their reasons, from the last one on, until one is left.
+    /// That
     /// one is the answer.
     pub fn resolve(&mut self, alloc: Global, store: &Store, trail: &Trail) -> Result<Lit, NoMemory>
         requires of_store { IsTrailOf trail.now.steps store.now }
@@ -124,7 +130,8 @@ impl Walk {
         Ok(step.lit.negated())
     }
 
-    /// The noted literals of lower levels and one literal more, and the table with no mark set. Nothing
+    /// The noted literals of lower levels and one literal more, and the table with no mark set.
+    /// Nothing
     /// may be open any more.
     pub fn finish(
         mut self,

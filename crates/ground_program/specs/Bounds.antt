@@ -42,8 +42,10 @@ pub record IsPairOver (candidates : ℕ) (pair : Pair) : Type 0 where
 -- the consequences lie between the two bounds
 pub record Encloses (program : Program) (mode : Mode) (pair : Pair) : Type 0 where
   pub over : IsPairOver (length program.names) pair
-  pub lower : (cand : ℕ) → IsCandidate program.names cand → HasCandidate pair.lower cand → IsConsequence program mode cand
-  pub upper : (cand : ℕ) → IsCandidate program.names cand → IsConsequence program mode cand → HasCandidate pair.upper cand
+  pub lower : (cand : ℕ) → IsCandidate program.names cand → HasCandidate pair.lower cand
+      → IsConsequence program mode cand
+  pub upper : (cand : ℕ) → IsCandidate program.names cand → IsConsequence program mode cand
+      → HasCandidate pair.upper cand
 
 -- a pair lies within another
 pub record IsWithin (narrow wide : Pair) : Type 0 where

@@ -1,8 +1,12 @@
--- What a program means: its answer sets and consequences, after Gelfond and Lifschitz, with weights and
--- choices after Simons, Niemelä and Soininen. An atom set has a truth value for each position from 0.
-use Rattle.std.specs.Prelude.{◌≡◌, ◌≢◌, ◌≤◌, ◌+◌, ℕ, Bool, false, not, if◌then◌else◌, List, length, All, Any, Some, slice_get, slice_index_or, sum_by, IsTrue}
+-- What a program means: its answer sets and consequences, after Gelfond and Lifschitz, with weights
+-- and
+-- choices after Simons, Niemelä and Soininen. An atom set has a truth value for each position from
+-- 0.
+use Rattle.std.specs.Prelude.{◌≡◌, ◌≢◌, ◌≤◌, ◌+◌, ℕ, Bool, false, not, if◌then◌else◌, List, length}
+use Rattle.std.specs.Prelude.{All, Any, Some, slice_get, slice_index_or, sum_by, IsTrue}
 use Rattle.ground_program.specs.declared.program.Kind.{Kind}
-use Rattle.ground_program.specs.declared.program.Kind.TheVariants.{Basic, Constraint, Choice, Weight, Disjunctive}
+use Rattle.ground_program.specs.declared.program.Kind.TheVariants.{Basic, Constraint, Choice}
+use Rattle.ground_program.specs.declared.program.Kind.TheVariants.{Weight, Disjunctive}
 use Rattle.ground_program.specs.declared.program.AtomLit.{AtomLit}
 use Rattle.ground_program.specs.declared.program.Weighted.{Weighted}
 use Rattle.ground_program.specs.declared.program.Rule.{Rule}
@@ -16,7 +20,8 @@ has set atom = slice_index_or set atom false
 abbrev pub IsIn : List Bool → ℕ → Type 0
 IsIn set atom = IsTrue (has set atom)
 
--- whether a literal counts in `set` by `by`: a negative one by the set `by`, a positive one in `set`
+-- whether a literal counts in `set` by `by`: a negative one by the set `by`, a positive one in
+-- `set`
 abbrev pub counts : List Bool → List Bool → AtomLit → Bool
 counts by set lit = if lit.negated then not (has by lit.atom) else has set lit.atom
 
@@ -64,12 +69,14 @@ pub record IsProperSubset (part whole : List Bool) : Type 0 where
   pub inside : (atom : ℕ) → IsIn part atom → IsIn whole atom
   pub other : part ≢ whole
 
--- an answer set: it meets the compute statement, keeps the rules of its own reduct, and no proper subset does
+-- an answer set: it meets the compute statement, keeps the rules of its own reduct, and no proper
+-- subset does
 pub record IsAnswerSet (program : Program) (set : List Bool) : Type 0 where
   pub over : IsSetOver program.atoms set
   pub compute : MeetsCompute program set
   pub keeps : KeepsAll set set program.rules
-  pub least : (smaller : List Bool) → IsProperSubset smaller set → SomeFails set smaller program.rules
+  pub least : (smaller : List Bool) → IsProperSubset smaller set
+      → SomeFails set smaller program.rules
 
 -- each atom of one set is in the other
 abbrev pub IsPart : List Bool → List Bool → Type 0

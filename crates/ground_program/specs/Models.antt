@@ -27,4 +27,5 @@ IsFirstUnmet program set atom =
 -- what a set breaks first: a rule, or with no rule broken the compute statement
 abbrev pub BreaksFirst : Program → List Bool → Broken → Type 0
 BreaksFirst program set (BrokenRule at) = IsFirstFailing set program.rules at
-BreaksFirst program set (Compute atom) = KeepsAll set set program.rules × IsFirstUnmet program set atom
+BreaksFirst program set (Compute atom) =
+    KeepsAll set set program.rules × IsFirstUnmet program set atom

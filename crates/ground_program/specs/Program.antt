@@ -1,7 +1,9 @@
 -- Which records are programs: what the numeric format guarantees of them.
-use Rattle.std.specs.Prelude.{◌≡◌, ◌≢◌, ◌≤◌, ◌<◌, ◌-◌, ◌^◌, ℕ, List, [], ◌∷◌, ◌++◌, length, map, max, All, AllPairs, flat_map, Some, slice_get, IsTrue, ⊤}
+use Rattle.std.specs.Prelude.{◌≡◌, ◌≢◌, ◌≤◌, ◌<◌, ◌-◌, ◌^◌, ℕ, List, [], ◌∷◌, ◌++◌, length, map}
+use Rattle.std.specs.Prelude.{max, All, AllPairs, flat_map, Some, slice_get, IsTrue, ⊤}
 use Rattle.ground_program.specs.declared.program.Kind.{Kind}
-use Rattle.ground_program.specs.declared.program.Kind.TheVariants.{Basic, Constraint, Choice, Weight, Disjunctive}
+use Rattle.ground_program.specs.declared.program.Kind.TheVariants.{Basic, Constraint, Choice}
+use Rattle.ground_program.specs.declared.program.Kind.TheVariants.{Weight, Disjunctive}
 use Rattle.ground_program.specs.declared.program.Weighted.{Weighted}
 use Rattle.ground_program.specs.declared.program.Rule.{Rule}
 use Rattle.ground_program.specs.declared.program.Program.{Program}

@@ -4,7 +4,8 @@ use Rattle.ground_program.specs.declared.program.Rule.{Rule}
 use Rattle.ground_program.specs.declared.program.Weighted.{Weighted}
 use Rattle.ground_program.specs.declared.program.Named.{Named}
 use Rattle.ground_program.specs.declared.program.Program.{Program}
-use Rattle.ground_program.specs.Program.{IsNumber, IsName, IsRule, HeadsFit, BoundFits, WeightFits, greatest, atoms_of}
+use Rattle.ground_program.specs.Program.{IsNumber, IsName, IsRule, HeadsFit, BoundFits, WeightFits}
+use Rattle.ground_program.specs.Program.{greatest, atoms_of}
 
 -- an atom of the format: at least 1, and a number
 pub record IsAtom (atom : ℕ) : Type 0 where

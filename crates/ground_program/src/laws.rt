@@ -1,10 +1,12 @@
 // Laws about the definitions. Each function has an empty body, and its contract is the law.
-ghost use Rattle.std.specs.Prelude.{◌≡◌, ◌≢◌, ◌↔◌, ℕ, Bool, List, false, true, length, replicate, All};
+ghost use Rattle.std.specs.Prelude.{◌≡◌, ◌≢◌, ◌↔◌, ℕ, Bool, List, false, true, length, replicate};
+ghost use Rattle.std.specs.Prelude.{All};
 ghost use Rattle.ground_program.specs.declared.program.Mode.{Mode};
 ghost use Rattle.ground_program.specs.declared.program.Program.{Program};
 ghost use Rattle.ground_program.specs.declared.program.Rule.{Rule};
 ghost use Rattle.ground_program.specs.declared.pair.Pair.{Pair};
-ghost use Rattle.ground_program.specs.Meaning.{IsIn, IsAnswerSet, KeepsAll, SomeFails, IsPart, HasNoChoice};
+ghost use Rattle.ground_program.specs.Meaning.{IsIn, IsAnswerSet, KeepsAll, SomeFails, IsPart};
+ghost use Rattle.ground_program.specs.Meaning.{HasNoChoice};
 ghost use Rattle.ground_program.specs.Bounds.{Encloses, IsWithin};
 
 /// The pair that says nothing yet encloses the consequences of every program.
@@ -28,7 +30,8 @@ pub fn within_is_transitive()
 
 /// Some rule fails exactly where not all are kept.
 pub fn some_rule_fails()
-    ensures { (by set : List Bool) (rules : List Rule) → (SomeFails by set rules ↔ ¬ KeepsAll by set rules) }
+    ensures { (by set : List Bool) (rules : List Rule)
+        → (SomeFails by set rules ↔ ¬ KeepsAll by set rules) }
 {}
 
 /// In a program without choice rules no answer set is a proper part of another. With choice

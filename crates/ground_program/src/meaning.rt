@@ -1,6 +1,8 @@
 // Which rules of a reduct a set keeps, and what a set that is no model breaks first.
-ghost use Rattle.std.specs.Prelude.{◌≡◌, ◌≤◌, ◌+◌, ◌↔◌, length, sum_by, find, not, map, option_copied, IsTrue, IsOk, IfErr, MatchOption};
-ghost use Rattle.ground_program.specs.Meaning.{has, counts, weight_in, HeadHolds, Keeps, KeepsAll, MeetsCompute};
+ghost use Rattle.std.specs.Prelude.{◌≡◌, ◌≤◌, ◌+◌, ◌↔◌, length, sum_by, find, not, map};
+ghost use Rattle.std.specs.Prelude.{option_copied, IsTrue, IsOk, IfErr, MatchOption};
+ghost use Rattle.ground_program.specs.Meaning.{has, counts, weight_in, HeadHolds, Keeps, KeepsAll};
+ghost use Rattle.ground_program.specs.Meaning.{MeetsCompute};
 ghost use Rattle.ground_program.specs.Models.{IsModel, IsFirstFailing, IsFirstUnmet, BreaksFirst};
 ghost use Rattle.ground_program.specs.Program.{IsProgram};
 
@@ -34,7 +36,8 @@ pub fn is_model(program: &Program, set: &Set) -> Result<(), Broken>
 /// The first rule that fails by the set in the set.
 fn first_failing(rules: &[Rule], set: &[bool]) -> Option<u32>
     requires { length rules.now ≤ 2147483647 }
-    ensures { MatchOption result (KeepsAll set.now set.now rules.now) (IsFirstFailing set.now rules.now) }
+    ensures { MatchOption result (KeepsAll set.now set.now rules.now)
+        (IsFirstFailing set.now rules.now) }
 {
     for (at, rule) in rules.iter().enumerate() {
         if !keeps(rule, set, set) {
@@ -46,7 +49,8 @@ fn first_failing(rules: &[Rule], set: &[bool]) -> Option<u32>
 
 /// The first atom of the compute statement that isn't met.
 fn first_unmet(program: &Program, set: &[bool]) -> Option<u32>
-    ensures { MatchOption result (MeetsCompute program.now set.now) (IsFirstUnmet program.now set.now) }
+    ensures { MatchOption result (MeetsCompute program.now set.now)
+        (IsFirstUnmet program.now set.now) }
 {
     match first_missing(program.must.as_slice(), set) {
         None => first_present(program.must_not.as_slice(), set),

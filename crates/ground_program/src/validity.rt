@@ -1,7 +1,11 @@
 // Which records are programs of the numeric format.
 ghost use Rattle.std.specs.Prelude.{◌≡◌, ◌≤◌, ◌<◌, ◌^◌, ◌↔◌, max, flat_map, length, All, IsTrue};
-ghost use Rattle.ground_program.specs.Program.{IsNumber, NegativesFirst, HeadsFit, BoundFits, WeightFits, IsRule, IsName, IsProgram, atoms_of_rule, atoms_of, greatest};
-ghost use Rattle.ground_program.specs.Validity.{IsAtom, RuleAtoms, ComputeAtoms, AllAtoms, NumbersFit, PartsFit, AtomsFit, FitsKind, RuleNumbers, atoms_of_body, atoms_of_names};
+ghost use Rattle.ground_program.specs.Program.{IsNumber, NegativesFirst, HeadsFit, BoundFits};
+ghost use Rattle.ground_program.specs.Program.{WeightFits, IsRule, IsName, IsProgram};
+ghost use Rattle.ground_program.specs.Program.{atoms_of_rule, atoms_of, greatest};
+ghost use Rattle.ground_program.specs.Validity.{IsAtom, RuleAtoms, ComputeAtoms, AllAtoms};
+ghost use Rattle.ground_program.specs.Validity.{NumbersFit, PartsFit, AtomsFit, FitsKind};
+ghost use Rattle.ground_program.specs.Validity.{RuleNumbers, atoms_of_body, atoms_of_names};
 
 use crate::{Kind, Named, Program, Rule, Weighted};
 

@@ -1,5 +1,6 @@
 // A list that holds nothing has no vector, so that opening one takes no memory and no allocator.
-ghost use Rattle.std.specs.Prelude.{◌≡◌, [], ◌∷◌, ◌++◌, ◌<◌, length, slice_get, slice_set, Some, OnOk, OnErr, IfOk};
+ghost use Rattle.std.specs.Prelude.{◌≡◌, [], ◌∷◌, ◌++◌, ◌<◌, length, slice_get, slice_set, Some};
+ghost use Rattle.std.specs.Prelude.{OnOk, OnErr, IfOk};
 
 use crate::Copied;
 use std::alloc::Global;

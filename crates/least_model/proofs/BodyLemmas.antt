@@ -32,14 +32,21 @@ weight-out by set part plain out =
 
 weight-le : (by set : List Bool) (part : Weighted) → IsPlain part → weight_in by set part ≤ 1
 weight-le by set part plain =
-    ⊎_elim (λ (known : IsIn set part.lit.atom). let here = weight-in by set part plain known in omega (arith, here))
-    (λ (out : has set part.lit.atom ≡ false). let here = weight-out by set part plain out in omega (arith, here))
+    ⊎_elim
+    (λ (known : IsIn set part.lit.atom). let here = weight-in by set part plain known in
+    omega (arith, here))
+    (λ (out : has set part.lit.atom ≡ false). let here = weight-out by set part plain out in
+    omega (arith, here))
     (cases_Bool (has set part.lit.atom))
 
 sum-le : (by set : List Bool) (body : List Weighted) → All IsPlain body
     → sum_by (weight_in by set) body ≤ length body
 sum-le by set body plain =
-    omega (arith, sum_by-le (weight_in by set) 1 body (All-weaker IsPlain (λ part. weight_in by set part ≤ 1) (weight-le by set) body plain))
+    omega (
+      arith,
+      sum_by-le (weight_in by set) 1 body
+          (All-weaker IsPlain (λ part. weight_in by set part ≤ 1) (weight-le by set) body plain),
+    )
 
 -- where the weights reach the number of literals, all their atoms are in the set
 pub all_from_sum : (by set : List Bool) (body : List Weighted) → All IsPlain body
@@ -64,7 +71,9 @@ pub sum_from_all : (by set : List Bool) (body : List Weighted) → All IsPlain b
 sum_from_all by set [] plain all = omega arith
 sum_from_all by set (part ∷ body) plain all =
     let rest : length body ≤ sum_by (weight_in by set) body =
-    sum_from_all by set body (All-tail IsPlain part body plain) (All-tail (HasPart set) part body all) in
+    sum_from_all by set body (All-tail IsPlain part body plain)
+    (All-tail (HasPart set) part body all) in
     let here : weight_in by set part ≡ 1 =
-    weight-in by set part (All-head IsPlain part body plain) (All-head (HasPart set) part body all) in
+    weight-in by set part (All-head IsPlain part body plain)
+    (All-head (HasPart set) part body all) in
     omega (arith, sum_by-cons (weight_in by set) part body, here, rest)

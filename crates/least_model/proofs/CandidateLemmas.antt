@@ -4,9 +4,11 @@ use Rattle.std.specs.List.{All}
 use Rattle.std.proofs.lemmas.Bool.{both_ways, cases_Bool}
 use Rattle.ground_program.specs.declared.program.Rule.{Rule}
 use Rattle.ground_program.specs.declared.program.Program.{Program}
-use Rattle.ground_program.specs.Meaning.{IsPart, IsAnswerSet, IsIn, IsProperSubset, IsSetOver, Keeps, KeepsAll, SomeFails, has}
+use Rattle.ground_program.specs.Meaning.{IsPart, IsAnswerSet, IsIn, IsProperSubset, IsSetOver}
+use Rattle.ground_program.specs.Meaning.{Keeps, KeepsAll, SomeFails, has}
 use Rattle.least_model.specs.Candidate.{IsOnlyCandidate}
-use Rattle.least_model.proofs.RuleLemmas.{IsKnown, all_keep_by, each_or_some, keeps_or_not, none_fails}
+use Rattle.least_model.proofs.RuleLemmas.{IsKnown, all_keep_by, each_or_some, keeps_or_not}
+use Rattle.least_model.proofs.RuleLemmas.{none_fails}
 use Rattle.least_model.proofs.SetLemmas.{same_sets}
 
 -- the set keeps the rules and is part of each set that does
@@ -57,5 +59,6 @@ only_candidate program set known over least = record {
   only = λ other answer.
       let positions : length set ≡ length other = over.positions ∙ sym answer.over.positions in
       same_sets other set (sym positions)
-      (nothing_beyond program set other known least positions answer) (least.within other answer.keeps);
+      (nothing_beyond program set other known least positions answer)
+      (least.within other answer.keeps);
 }

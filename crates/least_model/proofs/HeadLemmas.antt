@@ -13,7 +13,8 @@ all-le-greatest : (numbers : List ℕ) → All (λ number. number ≤ greatest n
 all-le-greatest [] = All-nil (λ number. number ≤ 0)
 all-le-greatest (number ∷ rest) =
     All-cons (λ it. it ≤ max number (greatest rest)) number rest (omega arith)
-    (All-weaker (λ it. it ≤ greatest rest) (λ it. it ≤ max number (greatest rest)) (λ it low. omega (arith, low)) rest
+    (All-weaker (λ it. it ≤ greatest rest) (λ it. it ≤ max number (greatest rest))
+    (λ it low. omega (arith, low)) rest
     (all-le-greatest rest))
 
 -- a position of an atom in a set over the atoms up to the greatest
@@ -35,8 +36,12 @@ heads_have_positions program valid =
     let P = HasPosition program.atoms in
     let in_rules = flat_map atoms_of_rule program.rules in
     let in_names = map (λ (named : Named). named.atom) program.names in
-    let before_last = All-left P (in_rules ++ in_names ++ program.must) program.must_not (all_have_positions program valid) in
-    let in_front = All-left P in_rules in_names (All-left P (in_rules ++ in_names) program.must before_last) in
+    let before_last =
+    All-left P (in_rules ++ in_names ++ program.must) program.must_not
+    (all_have_positions program valid) in
+    let in_front =
+    All-left P in_rules in_names (All-left P (in_rules ++ in_names) program.must before_last) in
     All-weaker (λ rule. All P (atoms_of_rule rule)) (λ rule. All P rule.heads)
-    (λ rule all. All-left P rule.heads (map (λ (part : Weighted). part.lit.atom) rule.body) all) program.rules
+    (λ rule all. All-left P rule.heads (map (λ (part : Weighted). part.lit.atom) rule.body) all)
+    program.rules
     (All-flat_map P atoms_of_rule program.rules in_front)

@@ -1,5 +1,6 @@
 -- What a try at a rule and a round over the rules do, and what the rounds come to.
-use Rattle.std.proofs.Common.{◌≡◌, ℕ, ◌<◌, ◌≤◌, Bool, true, false, List, [], ◌∷◌, ◌++◌, length, set, get_or, zero, suc, arith, refl, sym, ◌∙◌, subst, ap, length-set}
+use Rattle.std.proofs.Common.{◌≡◌, ℕ, ◌<◌, ◌≤◌, Bool, true, false, List, [], ◌∷◌, ◌++◌, length, set}
+use Rattle.std.proofs.Common.{get_or, zero, suc, arith, refl, sym, ◌∙◌, subst, ap, length-set}
 use Rattle.std.specs.Prelude.{Some, slice_get}
 use Rattle.std.specs.List.{All}
 use Rattle.std.proofs.lemmas.List.Elements.{All-nil, All-push, All-weaker}
@@ -24,7 +25,8 @@ known_rule set rule suits = record { definite = suits.definite; valid = suits.va
 -- the one head of a rule
 heads_are : (rule : Rule) (head : ℕ) → IsKnown rule → slice_get rule.heads 0 ≡ Some head
     → (P : ℕ → Type 0) → P head → All P rule.heads
-heads_are rule head known first P here zero d within = subst P (sym (get_or_from_slice_get rule.heads 0 head d first)) here
+heads_are rule head known first P here zero d within =
+    subst P (sym (get_or_from_slice_get rule.heads 0 head d first)) here
 heads_are rule head known first P here (suc k) d within =
     let one = head_first rule known in absurd (omega (arith, one, within))
 
@@ -50,7 +52,9 @@ pub stays_with_head : (rule : Rule) (before : List Bool) (head : ℕ) → Suits 
     → slice_get rule.heads 0 ≡ Some head → IsIn before head → TriesRule rule before before false
 stays_with_head rule before head suits first here =
     let known = known_rule before rule suits in
-    stays rule before (keeps_from before before rule known (λ _. heads_are rule head known first (IsIn before) here))
+    stays rule before
+    (keeps_from before before rule known
+    (λ _. heads_are rule head known first (IsIn before) here))
 
 pub stays_without_body : (rule : Rule) (before : List Bool) → Suits before rule
     → ¬ All (HasPart before) rule.body → TriesRule rule before before false
@@ -69,15 +73,18 @@ pub adds_head : (rule : Rule) (before : List Bool) (head : ℕ) → Suits before
     → TriesRule rule before (set before head true) true
 adds_head rule before head suits first out body =
     let known = known_rule before rule suits in
-    let position = head_is rule head known first (λ atom. (1 ≤ atom) × (atom < length before)) suits.heads in
+    let position =
+    head_is rule head known first (λ atom. (1 ≤ atom) × (atom < length before)) suits.heads in
     record {
       positions = length-set before head true;
       no_atom = slice_get-set_first before head position.0;
       within = λ other keeps part.
           let there : All (HasPart other) rule.body =
-          All-weaker (HasPart before) (HasPart other) (λ it known_there. part it.lit.atom known_there) rule.body body in
+          All-weaker (HasPart before) (HasPart other)
+          (λ it known_there. part it.lit.atom known_there) rule.body body in
           added_is_part before other head part
-          (head_is rule head known first (IsIn other) (heads_from other other rule known keeps there));
+          (head_is rule head known first (IsIn other)
+          (heads_from other other rule known keeps there));
       nearer = missing-added before head position.1 out;
       same = tt;
       keeps = tt;
@@ -107,21 +114,25 @@ missing_no_more : (front : List Rule) (before mid : List Bool) (grew : Bool)
     → TriesAll front before mid grew
     → missing mid ≤ missing before
 missing_no_more front before mid true so_far = let less = so_far.nearer in omega (arith, less)
-missing_no_more front before mid false so_far = let same = ap missing so_far.same in omega (arith, same)
+missing_no_more front before mid false so_far = let same = ap missing so_far.same in
+    omega (arith, same)
 
 -- a further rule made the set grow
 pub round_grew : (front : List Rule) (rule : Rule) (before mid after : List Bool) (grew : Bool)
-    → TriesAll front before mid grew → TriesRule rule mid after true → TriesAll (front ++ rule ∷ []) before after true
+    → TriesAll front before mid grew → TriesRule rule mid after true
+    → TriesAll (front ++ rule ∷ []) before after true
 round_grew front rule before mid after grew so_far step = record {
   grows = grows_more front rule before mid after true so_far.grows step;
-  nearer = let less = step.nearer in let low = missing_no_more front before mid grew so_far in omega (arith, less, low);
+  nearer = let less = step.nearer in let low = missing_no_more front before mid grew so_far in
+      omega (arith, less, low);
   same = tt;
   keeps = tt;
 }
 
 -- a further rule left the set
 pub round_same : (front : List Rule) (rule : Rule) (before mid after : List Bool) (grew : Bool)
-    → TriesAll front before mid grew → TriesRule rule mid after false → TriesAll (front ++ rule ∷ []) before after grew
+    → TriesAll front before mid grew → TriesRule rule mid after false
+    → TriesAll (front ++ rule ∷ []) before after grew
 round_same front rule before mid after true so_far step = record {
   grows = grows_more front rule before mid after false so_far.grows step;
   nearer = let less = so_far.nearer in let same = ap missing step.same in omega (arith, less, same);
@@ -142,13 +153,15 @@ pub record IsBelow (program : Program) (it : List Bool) : Type 0 where
   pub over : IsSetOver program.atoms it
   pub within : (other : List Bool) → KeepsAll other other program.rules → IsPart it other
 
-pub below_empty : (program : Program) (it : List Bool) → IsEmptySet program.atoms it → IsBelow program it
+pub below_empty : (program : Program) (it : List Bool) → IsEmptySet program.atoms it
+    → IsBelow program it
 below_empty program it empty = record {
   over = empty.over;
   within = λ other _ atom known. absurd (empty.none atom known);
 }
 
-pub below_more : (program : Program) (before after : List Bool) (grew : Bool) → IsBelow program before
+pub below_more : (program : Program) (before after : List Bool) (grew : Bool)
+    → IsBelow program before
     → TriesAll program.rules before after grew → IsBelow program after
 below_more program before after grew below round = record {
   over = record {
@@ -158,14 +171,17 @@ below_more program before after grew below round = record {
   within = λ other keeps. round.grows.within other keeps (below.within other keeps);
 }
 
-all_known : (program : Program) → IsProgram program → IsDefinite program.rules → All IsKnown program.rules
+all_known : (program : Program) → IsProgram program → IsDefinite program.rules
+    → All IsKnown program.rules
 all_known program valid definite k rule within =
     record { definite = definite k rule within; valid = valid.rules k rule within }
 
 pub all_suit : (program : Program) (it : List Bool) → IsProgram program → IsDefinite program.rules
     → IsBelow program it → All (Suits it) program.rules
 all_suit program it valid definite below k rule within =
-    let P : ℕ → Type 0 = λ positions. All (λ head. (1 ≤ head) × (head < positions)) (get_or program.rules k rule).heads in
+    let P : ℕ → Type 0 =
+    λ positions. All (λ head. (1 ≤ head) × (head < positions))
+    (get_or program.rules k rule).heads in
     record {
       definite = definite k rule within;
       valid = valid.rules k rule within;
@@ -175,7 +191,8 @@ all_suit program it valid definite below k rule within =
 -- after a round that changed nothing
 pub settled : (program : Program) (before after : List Bool) → IsProgram program
     → IsDefinite program.rules
-    → IsBelow program before → TriesAll program.rules before after false → IsOnlyCandidate program after
+    → IsBelow program before → TriesAll program.rules before after false
+    → IsOnlyCandidate program after
 settled program before after valid definite below round =
     let end = below_more program before after false below round in
     only_candidate program after (all_known program valid definite) end.over

@@ -1,12 +1,15 @@
--- Definite rules: whether a set keeps one doesn't depend on the set of the reduct, and can be decided.
-use Rattle.std.proofs.Common.{◌≡◌, ℕ, ◌<◌, ◌≤◌, ◌⊎◌, inl, inr, Bool, false, List, [], ◌∷◌, length, get_or, arith, ⊎_elim, subst, sym, refl, suc}
+-- Definite rules: whether a set keeps one doesn't depend on the set of the reduct, and can be
+-- decided.
+use Rattle.std.proofs.Common.{◌≡◌, ℕ, ◌<◌, ◌≤◌, ◌⊎◌, inl, inr, Bool, false, List, [], ◌∷◌, length}
+use Rattle.std.proofs.Common.{get_or, arith, ⊎_elim, subst, sym, refl, suc}
 use Rattle.std.specs.Prelude.{sum_by}
 use Rattle.std.specs.List.{All, Any}
 use Rattle.std.proofs.lemmas.Bool.{both_ways, cases_Bool, cases_lt}
 use Rattle.std.proofs.lemmas.List.Elements.{All-nil, All-cons, All-head, All-tail}
 use Rattle.ground_program.specs.declared.program.Kind.{Kind}
 use Rattle.ground_program.specs.declared.program.Rule.{Rule}
-use Rattle.ground_program.specs.Meaning.{BodyHolds, HeadHolds, IsIn, Keeps, KeepsAll, has, weight_in}
+use Rattle.ground_program.specs.Meaning.{BodyHolds, HeadHolds, IsIn, Keeps, KeepsAll, has}
+use Rattle.ground_program.specs.Meaning.{weight_in}
 use Rattle.ground_program.specs.Program.{BoundFits, HeadsFit, IsRule, WeightFits}
 use Rattle.least_model.specs.Definite.{IsDefiniteRule}
 use Rattle.least_model.proofs.BodyLemmas.{HasPart, IsPlain, all_from_sum, sum_from_all}
@@ -75,7 +78,8 @@ heads_from by set rule known keeps all =
 -- the reduct doesn't depend on the set that it is made by
 pub keeps_by : (by other set : List Bool) (rule : Rule) → IsKnown rule → Keeps by set rule
     → Keeps other set rule
-keeps_by by other set rule known keeps = keeps_from other set rule known (heads_from by set rule known keeps)
+keeps_by by other set rule known keeps =
+    keeps_from other set rule known (heads_from by set rule known keeps)
 
 pub all_keep_by : (by other set : List Bool) (rules : List Rule) → All IsKnown rules
     → KeepsAll by set rules → KeepsAll other set rules
@@ -89,7 +93,8 @@ each_or_some Q P test [] given = inl (All-nil P)
 each_or_some Q P test (x ∷ xs) given =
     ⊎_elim (λ (here : P x).
     ⊎_elim (λ (rest : All P xs). inl (All-cons P x xs here rest))
-    (λ (rest : Any (λ y. ¬ P y) xs). inr (suc rest.0, rest.1, omega (arith, rest.2), rest.3, rest.4))
+    (λ (rest : Any (λ y. ¬ P y) xs). inr
+    (suc rest.0, rest.1, omega (arith, rest.2), rest.3, rest.4))
     (each_or_some Q P test xs (All-tail Q x xs given)))
     (λ (fails : ¬ P x). inr (0, x, omega arith, refl, fails))
     (test x (All-head Q x xs given))
@@ -107,7 +112,8 @@ in_or_out set atom =
 all_in_or_not : (set : List Bool) (atoms : List ℕ) → All (IsIn set) atoms ⊎ ¬ All (IsIn set) atoms
 all_in_or_not set atoms =
     ⊎_elim (λ (all : All (IsIn set) atoms). inl all)
-    (λ (some : Any (λ atom. ¬ IsIn set atom) atoms). inr (λ all. none_fails (IsIn set) atoms all some))
+    (λ (some : Any (λ atom. ¬ IsIn set atom) atoms). inr
+    (λ all. none_fails (IsIn set) atoms all some))
     (each_or_some (λ _. Unit {0}) (IsIn set) (λ atom _. in_or_out set atom) atoms (λ _ _ _. tt))
 
 -- a set keeps a known rule of a reduct or doesn't

@@ -1,5 +1,6 @@
 -- Sets of atoms: parts, single writes and equality.
-use Rattle.std.proofs.Common.{◌≡◌, ℕ, ◌<◌, Bool, true, false, not, List, length, set, arith, ⊎_elim, sym, ◌∙◌, refl, cond}
+use Rattle.std.proofs.Common.{◌≡◌, ℕ, ◌<◌, Bool, true, false, not, List, length, set, arith, ⊎_elim}
+use Rattle.std.proofs.Common.{sym, ◌∙◌, refl, cond}
 use Rattle.std.proofs.lemmas.Bool.{cases_eq}
 use Rattle.std.proofs.lemmas.List.{ext_get_or, get_or-set_other}
 use Rattle.std.proofs.lemmas.List.Sums.{sum_by-set}
@@ -15,14 +16,16 @@ same_bits false false forth back = refl
 -- two sets over the same positions that are parts of each other are the same
 pub same_sets : (a b : List Bool) → length a ≡ length b → IsPart a b → IsPart b a → a ≡ b
 same_sets a b positions forth back =
-    ext_get_or false a b positions (λ atom _. same_bits (has a atom) (has b atom) (forth atom) (back atom))
+    ext_get_or false a b positions
+    (λ atom _. same_bits (has a atom) (has b atom) (forth atom) (back atom))
 
 -- a set with one more atom is part of each set that has the atom and the rest
 pub added_is_part : (before other : List Bool) (head : ℕ) → IsPart before other → IsIn other head
     → IsPart (set before head true) other
 added_is_part before other head part here atom known =
     ⊎_elim (λ (same : atom ≡ head). rw same here)
-    (λ (apart : atom ≡ head → ⊥). part atom (sym (get_or-set_other before head atom true false apart) ∙ known))
+    (λ (apart : atom ≡ head → ⊥). part atom
+    (sym (get_or-set_other before head atom true false apart) ∙ known))
     (cases_eq atom head)
 
 -- one more atom leaves fewer positions false

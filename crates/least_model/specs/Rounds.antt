@@ -25,13 +25,15 @@ pub record Suits (set : List Bool) (rule : Rule) : Type 0 where
 pub record Grows (rules : List Rule) (before after : List Bool) : Type 0 where
   pub positions : length after ≡ length before
   pub no_atom : slice_get after 0 ≡ slice_get before 0
-  pub within : (other : List Bool) → KeepsAll other other rules → IsPart before other → IsPart after other
+  pub within : (other : List Bool) → KeepsAll other other rules → IsPart before other
+      → IsPart after other
 
 -- a try at one rule: the set grew, or it is the same and keeps the rule
 pub record TriesRule (rule : Rule) (before after : List Bool) (grew : Bool) : Type 0 where
   pub positions : length after ≡ length before
   pub no_atom : slice_get after 0 ≡ slice_get before 0
-  pub within : (other : List Bool) → Keeps other other rule → IsPart before other → IsPart after other
+  pub within : (other : List Bool) → Keeps other other rule → IsPart before other
+      → IsPart after other
   pub nearer : OnTrue grew (missing after < missing before)
   pub same : OnFalse grew (after ≡ before)
   pub keeps : OnFalse grew (Keeps after after rule)

@@ -1,6 +1,7 @@
 // Which rules are definite.
 ghost use Rattle.std.specs.Prelude.{◌≡◌, ◌<◌, ◌^◌, ◌↔◌, length, IsTrue, MatchOption};
-ghost use Rattle.least_model.specs.Definite.{HasNoNegation, IsDefinite, IsDefiniteRule, IsFirstOther};
+ghost use Rattle.least_model.specs.Definite.{HasNoNegation, IsDefinite, IsDefiniteRule};
+ghost use Rattle.least_model.specs.Definite.{IsFirstOther};
 
 use ground_program::{Kind, Rule, Rules, Weighted};
 

@@ -1,5 +1,6 @@
 -- Writing the items of a list in turn, each as its own text.
-use Rattle.std.proofs.Common.{◌≡◌, ℕ, false, ◌+◌, ◌≤◌, ◌<◌, List, [], ◌∷◌, ◌++◌, length, take, drop, get_or, Option, Result, Ok, Err, refl, sym, ap, ◌∙◌}
+use Rattle.std.proofs.Common.{◌≡◌, ℕ, false, ◌+◌, ◌≤◌, ◌<◌, List, [], ◌∷◌, ◌++◌, length, take, drop}
+use Rattle.std.proofs.Common.{get_or, Option, Result, Ok, Err, refl, sym, ap, ◌∙◌}
 use Rattle.std.specs.Prelude.{IsErr}
 use Rattle.std.specs.List.{flat_map}
 use Rattle.std.proofs.lemmas.List.{take_more, take_all, take-append-drop, append-nil}
@@ -7,7 +8,8 @@ use Rattle.std.proofs.lemmas.List.Concat.{flat_map-append}
 use Rattle.std.proofs.lemmas.List.Folds.{flat_map-map}
 use Rattle.ground_program.specs.declared.program.Weighted.{Weighted}
 use Rattle.byte_edges.specs.Edges.{Writes}
-use Rattle.byte_edges.proofs.CallerLemmas.{writes_none, writes_then, writes_longer, writes_fault, writes_ok, writes_same}
+use Rattle.byte_edges.proofs.CallerLemmas.{writes_none, writes_then, writes_longer, writes_fault}
+use Rattle.byte_edges.proofs.CallerLemmas.{writes_ok, writes_same}
 use Rattle.lparse_reader.specs.Pieces.{body_atoms, negatives, body_weights}
 use Rattle.lparse_reader.specs.Text.{next_field, next_fields}
 
@@ -26,22 +28,29 @@ counts body = length body ∷ negatives body ∷ []
 abbrev pub no_part : Weighted
 no_part = record { lit = record { atom = 0; negated = false }; weight = 0 }
 
-pub fields_of_literals : (body : List Weighted) → flat_map literal_field body ≡ next_fields (body_atoms body)
+pub fields_of_literals : (body : List Weighted)
+    → flat_map literal_field body ≡ next_fields (body_atoms body)
 fields_of_literals body = sym (flat_map-map next_field (λ (part : Weighted). part.lit.atom) body)
 
-pub fields_of_weights : (body : List Weighted) → flat_map weight_field body ≡ next_fields (body_weights body)
+pub fields_of_weights : (body : List Weighted)
+    → flat_map weight_field body ≡ next_fields (body_weights body)
 fields_of_weights body = sym (flat_map-map next_field (λ (part : Weighted). part.weight) body)
 
-module _ {X : Type 0} (f : X → List ℕ) (items : List X) (at : ℕ) (item : X) (within : at < length items) (is : item ≡ get_or items at item) where
+module _ {X : Type 0} (f : X → List ℕ) (items : List X) (at : ℕ) (item : X)
+    (within : at < length items) (is : item ≡ get_or items at item) where
   flat_map-more : flat_map f (take at items) ++ f item ≡ flat_map f (take (at + 1) items)
   flat_map-more =
-      sym (ap (flat_map f) (take_more items at item within) ∙ flat_map-append f (take at items) (get_or items at item ∷ [])
-      ∙ ap (λ last. flat_map f (take at items) ++ last) (append-nil (f (get_or items at item)) ∙ ap f (sym is)))
+      sym (ap (flat_map f) (take_more items at item within)
+      ∙ flat_map-append f (take at items) (get_or items at item ∷ [])
+      ∙ ap (λ last. flat_map f (take at items) ++ last)
+      (append-nil (f (get_or items at item)) ∙ ap f (sym is)))
 
-  flat_map-rest : (flat_map f (take at items) ++ f item) ++ flat_map f (drop (at + 1) items) ≡ flat_map f items
+  flat_map-rest : (flat_map f (take at items) ++ f item) ++ flat_map f (drop (at + 1) items)
+      ≡ flat_map f items
   flat_map-rest =
       ap (λ front. front ++ flat_map f (drop (at + 1) items)) flat_map-more
-      ∙ sym (flat_map-append f (take (at + 1) items) (drop (at + 1) items)) ∙ ap (flat_map f) (take-append-drop (at + 1) items)
+      ∙ sym (flat_map-append f (take (at + 1) items) (drop (at + 1) items))
+      ∙ ap (flat_map f) (take-append-drop (at + 1) items)
 
 module _ {K : Type 0} (written : K → Option (List ℕ)) (faults : K → ℕ) where
   -- bytes were written
@@ -53,43 +62,76 @@ module _ {K : Type 0} {written : K → Option (List ℕ)} {faults : K → ℕ} w
   wrote_none sink = writes_none sink
 
   -- one more item of a list was written
-  pub wrote_more : {X T E : Type 0} {old mid new : K} {value : T} (f : X → List ℕ) (items : List X) (at : ℕ) (item : X) → at < length items → item ≡ get_or items at item
-      → Wrote written faults old mid (flat_map f (take at items)) → Writes {E = E} written faults mid new (f item) (Ok value) → Wrote written faults old new (flat_map f (take (at + 1) items))
-  wrote_more f items at item within is before one = writes_same (flat_map-more f items at item within is) (writes_then before (writes_ok one))
+  pub wrote_more : {X T E : Type 0} {old mid new : K} {value : T} (f : X → List ℕ) (items : List X)
+      (at : ℕ) (item : X) → at < length items → item ≡ get_or items at item
+      → Wrote written faults old mid (flat_map f (take at items))
+      → Writes {E = E} written faults mid new (f item) (Ok value)
+      → Wrote written faults old new (flat_map f (take (at + 1) items))
+  wrote_more f items at item within is before one =
+      writes_same (flat_map-more f items at item within is) (writes_then before (writes_ok one))
 
   -- an item of a list wasn't written whole
-  pub wrote_fault : {X T U E F : Type 0} {old mid new : K} {error : E} {result : Result U F} (f : X → List ℕ) (items : List X) (at : ℕ) (item : X) → IsErr result → at < length items → item ≡ get_or items at item
-      → Wrote written faults old mid (flat_map f (take at items)) → Writes {T = T} written faults mid new (f item) (Err error) → Writes written faults old new (flat_map f items) result
+  pub wrote_fault : {X T U E F : Type 0} {old mid new : K} {error : E} {result : Result U F}
+      (f : X → List ℕ) (items : List X) (at : ℕ) (item : X) → IsErr result → at < length items
+      → item ≡ get_or items at item
+      → Wrote written faults old mid (flat_map f (take at items))
+      → Writes {T = T} written faults mid new (f item) (Err error)
+      → Writes written faults old new (flat_map f items) result
   wrote_fault f items at item fails within is before one =
-      writes_fault fails (writes_same (flat_map-rest f items at item within is) (writes_longer (flat_map f (drop (at + 1) items)) (writes_then before one)))
+      writes_fault fails
+      (writes_same (flat_map-rest f items at item within is)
+      (writes_longer (flat_map f (drop (at + 1) items)) (writes_then before one)))
 
   -- all items of a list were written
-  pub wrote_all : {X T E : Type 0} {old new : K} {value : T} (f : X → List ℕ) (items : List X) (at : ℕ) → length items ≤ at
-      → Wrote written faults old new (flat_map f (take at items)) → Writes {E = E} written faults old new (flat_map f items) (Ok value)
-  wrote_all f items at whole done = writes_same (ap (flat_map f) (take_all at items whole)) (writes_ok done)
+  pub wrote_all : {X T E : Type 0} {old new : K} {value : T} (f : X → List ℕ) (items : List X)
+      (at : ℕ) → length items ≤ at
+      → Wrote written faults old new (flat_map f (take at items))
+      → Writes {E = E} written faults old new (flat_map f items) (Ok value)
+  wrote_all f items at whole done =
+      writes_same (ap (flat_map f) (take_all at items whole)) (writes_ok done)
 
   -- all items were written, and then what ends them
-  pub lines_then : {X T E : Type 0} {old mid new : K} {ended : List ℕ} {result : Result T E} (f : X → List ℕ) (items : List X) (at : ℕ) → length items ≤ at
-      → Wrote written faults old mid (flat_map f (take at items)) → Writes written faults mid new ended result → Writes written faults old new (flat_map f items ++ ended) result
-  lines_then f items at whole done one = writes_then (wrote_all {E = Unit {0}} {value = tt {0}} f items at whole done) one
+  pub lines_then : {X T E : Type 0} {old mid new : K} {ended : List ℕ} {result : Result T E}
+      (f : X → List ℕ) (items : List X) (at : ℕ) → length items ≤ at
+      → Wrote written faults old mid (flat_map f (take at items))
+      → Writes written faults mid new ended result
+      → Writes written faults old new (flat_map f items ++ ended) result
+  lines_then f items at whole done one =
+      writes_then (wrote_all {E = Unit {0}} {value = tt {0}} f items at whole done) one
 
   -- an item wasn't written whole, and what ends them wasn't tried
-  pub lines_cut : {X T U E F : Type 0} {old mid new : K} {error : E} {result : Result U F} (f : X → List ℕ) (items : List X) (at : ℕ) (item : X) (ended : List ℕ) → IsErr result → at < length items → item ≡ get_or items at item
-      → Wrote written faults old mid (flat_map f (take at items)) → Writes {T = T} written faults mid new (f item) (Err error) → Writes written faults old new (flat_map f items ++ ended) result
-  lines_cut {U = U} {old = old} {new = new} {error = error} f items at item ended fails within is before one =
-      let failed : Writes {T = U} written faults old new (flat_map f items) (Err error) = wrote_fault f items at item refl within is before one in
+  pub lines_cut : {X T U E F : Type 0} {old mid new : K} {error : E} {result : Result U F}
+      (f : X → List ℕ) (items : List X) (at : ℕ) (item : X) (ended : List ℕ) → IsErr result
+      → at < length items → item ≡ get_or items at item
+      → Wrote written faults old mid (flat_map f (take at items))
+      → Writes {T = T} written faults mid new (f item) (Err error)
+      → Writes written faults old new (flat_map f items ++ ended) result
+  lines_cut {U = U} {old = old} {new = new} {error = error} f items at item ended fails within is
+      before one =
+      let failed : Writes {T = U} written faults old new (flat_map f items) (Err error) =
+      wrote_fault f items at item refl within is before one in
       writes_fault fails (writes_longer ended failed)
 
   -- the last field was written
-  pub last_field : {T E : Type 0} {old new : K} {result : Result T E} (number : ℕ) → Writes written faults old new (next_field number) result → Writes written faults old new (next_fields (number ∷ [])) result
+  pub last_field : {T E : Type 0} {old new : K} {result : Result T E} (number : ℕ)
+      → Writes written faults old new (next_field number) result
+      → Writes written faults old new (next_fields (number ∷ [])) result
   last_field number one = writes_same (sym (append-nil (next_field number))) one
 
   -- fields were written, and then others
-  pub fields_then : {T U E F : Type 0} {old mid new : K} {value : T} {result : Result U F} (first second : List ℕ)
-      → Writes {E = E} written faults old mid (next_fields first) (Ok value) → Writes written faults mid new (next_fields second) result → Writes written faults old new (next_fields (first ++ second)) result
-  fields_then first second one two = writes_same (sym (flat_map-append next_field first second)) (writes_then one two)
+  pub fields_then : {T U E F : Type 0} {old mid new : K} {value : T} {result : Result U F}
+      (first second : List ℕ)
+      → Writes {E = E} written faults old mid (next_fields first) (Ok value)
+      → Writes written faults mid new (next_fields second) result
+      → Writes written faults old new (next_fields (first ++ second)) result
+  fields_then first second one two =
+      writes_same (sym (flat_map-append next_field first second)) (writes_then one two)
 
   -- fields weren't written whole, and those behind weren't tried
-  pub fields_cut : {T U E F : Type 0} {old new : K} {error : E} {result : Result U F} (front rest : List ℕ) → IsErr result
-      → Writes {T = T} written faults old new (next_fields front) (Err error) → Writes written faults old new (next_fields (front ++ rest)) result
-  fields_cut front rest fails one = writes_same (sym (flat_map-append next_field front rest)) (writes_fault fails (writes_longer (next_fields rest) one))
+  pub fields_cut : {T U E F : Type 0} {old new : K} {error : E} {result : Result U F}
+      (front rest : List ℕ) → IsErr result
+      → Writes {T = T} written faults old new (next_fields front) (Err error)
+      → Writes written faults old new (next_fields (front ++ rest)) result
+  fields_cut front rest fails one =
+      writes_same (sym (flat_map-append next_field front rest))
+      (writes_fault fails (writes_longer (next_fields rest) one))

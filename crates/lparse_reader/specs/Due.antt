@@ -1,5 +1,6 @@
 -- Which fields the format asks for, in order.
-use Rattle.std.specs.Prelude.{◌==◌, ◌++◌, ℕ, if◌then◌else◌, List, [], ◌∷◌, Option, Some, None, nat_lt, replicate}
+use Rattle.std.specs.Prelude.{◌==◌, ◌++◌, ℕ, if◌then◌else◌, List, [], ◌∷◌, Option, Some, None}
+use Rattle.std.specs.Prelude.{nat_lt, replicate}
 use Rattle.std.specs.Prelude.{option_and_then}
 use Rattle.lparse_reader.specs.Pieces.{Item, number, entry, mark}
 
@@ -85,4 +86,5 @@ after_item due (mark found) = after_mark_of due found
 abbrev pub run : List Due → List Item → Option (List Due)
 run agenda [] = Some agenda
 run [] (item ∷ items) = None
-run (due ∷ agenda) (item ∷ items) = option_and_then (λ more. run (more ++ agenda) items) (after_item due item)
+run (due ∷ agenda) (item ∷ items) =
+    option_and_then (λ more. run (more ++ agenda) items) (after_item due item)

@@ -1,14 +1,20 @@
 -- Reading one field from left to right: its value and the bytes after it, or the first fault.
-use Rattle.std.specs.Prelude.{◌≡◌, ◌==◌, ◌+◌, ◌-◌, ◌*◌, ◌&&◌, ◌||◌, ℕ, zero, suc, Bool, false, if◌then◌else◌, List, [], ◌∷◌, ◌++◌, length, Option, Some, None, Result, Ok, Err, nat_lt}
+use Rattle.std.specs.Prelude.{◌≡◌, ◌==◌, ◌+◌, ◌-◌, ◌*◌, ◌&&◌, ◌||◌, ℕ, zero, suc, Bool, false}
+use Rattle.std.specs.Prelude.{if◌then◌else◌, List, [], ◌∷◌, ◌++◌, length, Option, Some, None}
+use Rattle.std.specs.Prelude.{Result, Ok, Err, nat_lt}
 use Rattle.std.specs.Char.{is_ascii_digit}
 use Rattle.ground_program.specs.declared.program.Weighted.{Weighted}
 use Rattle.ground_program.specs.declared.program.Named.{Named}
-use Rattle.lparse_reader.specs.declared.fault.TextFault.TheVariants.{NotANumber, AtomZero, NumberTooLarge, MissingMark, ExternalSection, NameMissing, TrailingText}
+use Rattle.lparse_reader.specs.declared.fault.TextFault.TheVariants.{NotANumber, AtomZero}
+use Rattle.lparse_reader.specs.declared.fault.TextFault.TheVariants.{NumberTooLarge, MissingMark}
+use Rattle.lparse_reader.specs.declared.fault.TextFault.TheVariants.{ExternalSection, NameMissing}
+use Rattle.lparse_reader.specs.declared.fault.TextFault.TheVariants.{TrailingText}
 use Rattle.lparse_reader.specs.declared.fault.Fault.{Fault}
 use Rattle.lparse_reader.specs.declared.fault.Fault.TheVariants.{Ended, At}
 use Rattle.lparse_reader.specs.declared.fault.Stop.{Stop}
 use Rattle.lparse_reader.specs.declared.fault.Stop.TheVariants as stops
-use Rattle.lparse_reader.specs.Tokens.{is_separator, skipped, is_token_end, line_of, after_line, trimmed}
+use Rattle.lparse_reader.specs.Tokens.{is_separator, skipped, is_token_end, line_of, after_line}
+use Rattle.lparse_reader.specs.Tokens.{trimmed}
 
 -- the first fault decides
 infixl 10 ◌>>=◌
@@ -63,7 +69,8 @@ atom_or_end_at bytes = do
   if atom.0 == 0 then Ok (None, atom.1) else Ok (Some atom.0, atom.1)
 
 -- items that were read before, and then those of a reading
-abbrev pub behind : {A : Type 0} → List A → Result (List A × List ℕ) Fault → Result (List A × List ℕ) Fault
+abbrev pub behind : {A : Type 0} → List A → Result (List A × List ℕ) Fault
+    → Result (List A × List ℕ) Fault
 behind before reading = do
   more ← reading
   Ok (before ++ more.0, more.1)
@@ -76,11 +83,13 @@ counted_at field (suc count) bytes = do
   behind (first.0 ∷ []) (counted_at field count first.1)
 
 -- the items before the end, if one was read; else the end is here
-abbrev pub before_end : {A : Type 0} → Option A → List ℕ → Result (List A × List ℕ) Fault → Result (List A × List ℕ) Fault
+abbrev pub before_end : {A : Type 0} → Option A → List ℕ → Result (List A × List ℕ) Fault
+    → Result (List A × List ℕ) Fault
 before_end None rest others = Ok ([], rest)
 before_end (Some item) rest others = behind (item ∷ []) others
 
--- all items up to an end, each of them and the end read by `field`, where `most` bytes are left at most
+-- all items up to an end, each of them and the end read by `field`, where `most` bytes are left at
+-- most
 unfoldable pub until_end_at : {A : Type 0} → Field (Option A) → ℕ → Field (List A)
 until_end_at field zero bytes = Err Ended
 until_end_at field (suc most) bytes = do

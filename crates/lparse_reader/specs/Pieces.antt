@@ -1,9 +1,11 @@
 -- Texts as rows of pieces, one for each field, apart from any way to read them.
-use Rattle.std.specs.Prelude.{◌≡◌, ◌+◌, ◌-◌, ◌*◌, ◌≤◌, ◌⊎◌, ℕ, true, List, [], ◌∷◌, ◌++◌, length, map, count_by}
+use Rattle.std.specs.Prelude.{◌≡◌, ◌+◌, ◌-◌, ◌*◌, ◌≤◌, ◌⊎◌, ℕ, true, List, [], ◌∷◌, ◌++◌, length}
+use Rattle.std.specs.Prelude.{map, count_by}
 use Rattle.std.specs.List.{AllByRecursion, flat_map}
 use Rattle.std.specs.Char.{is_ascii_digit}
 use Rattle.ground_program.specs.declared.program.Kind.{Kind}
-use Rattle.ground_program.specs.declared.program.Kind.TheVariants.{Basic, Constraint, Choice, Weight, Disjunctive}
+use Rattle.ground_program.specs.declared.program.Kind.TheVariants.{Basic, Constraint, Choice}
+use Rattle.ground_program.specs.declared.program.Kind.TheVariants.{Weight, Disjunctive}
 use Rattle.ground_program.specs.declared.program.Weighted.{Weighted}
 use Rattle.ground_program.specs.declared.program.Rule.{Rule}
 use Rattle.ground_program.specs.declared.program.Named.{Named}
@@ -54,7 +56,8 @@ abbrev pub IsLineEnd : List ℕ → Type 0
 IsLineEnd [] = Unit {0}
 IsLineEnd (byte ∷ rest) = byte ≡ 10
 
--- an entry stands at the front: its atom, one blank or tab, its name, and carriage returns up to the line's end
+-- an entry stands at the front: its atom, one blank or tab, its name, and carriage returns up to
+-- the line's end
 pub record StandsEntry (atom : ℕ) (name bytes rest : List ℕ) : Type 0 where
   pub after : List ℕ
   pub blank : ℕ
@@ -74,7 +77,8 @@ Stands (mark sign) bytes rest = StandsMark sign bytes rest
 -- the pieces of these items stand one after the other
 abbrev pub PieceRow : List Item → List ℕ → List ℕ → Type 0
 PieceRow [] bytes rest = bytes ≡ rest
-PieceRow (item ∷ items) bytes rest = (middle : List ℕ) × Stands item bytes middle × PieceRow items middle rest
+PieceRow (item ∷ items) bytes rest =
+    (middle : List ℕ) × Stands item bytes middle × PieceRow items middle rest
 
 -- the atoms of a body, its weights, and how many of its literals are negative
 abbrev pub body_atoms : List Weighted → List ℕ

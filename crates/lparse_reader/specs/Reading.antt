@@ -1,18 +1,23 @@
 -- Reading rules and whole texts from left to right, with the first fault that is met.
-use Rattle.std.specs.Prelude.{◌==◌, ◌-◌, ℕ, true, false, if◌then◌else◌, List, [], ◌∷◌, length, Option, Some, None, Result, Ok, Err, nat_lt}
+use Rattle.std.specs.Prelude.{◌==◌, ◌-◌, ℕ, true, false, if◌then◌else◌, List, [], ◌∷◌, length}
+use Rattle.std.specs.Prelude.{Option, Some, None, Result, Ok, Err, nat_lt}
 use Rattle.ground_program.specs.declared.program.Kind.{Kind}
-use Rattle.ground_program.specs.declared.program.Kind.TheVariants.{Basic, Constraint, Choice, Weight, Disjunctive}
+use Rattle.ground_program.specs.declared.program.Kind.TheVariants.{Basic, Constraint, Choice}
+use Rattle.ground_program.specs.declared.program.Kind.TheVariants.{Weight, Disjunctive}
 use Rattle.ground_program.specs.declared.program.Weighted.{Weighted}
 use Rattle.ground_program.specs.declared.program.Rule.{Rule}
 use Rattle.ground_program.specs.declared.program.Named.{Named}
 use Rattle.ground_program.specs.declared.program.Program.{Program}
 use Rattle.ground_program.specs.Program.{greatest, atoms_of}
-use Rattle.lparse_reader.specs.declared.fault.TextFault.TheVariants.{UnknownKind, MinimizeRule, NegativeCount}
+use Rattle.lparse_reader.specs.declared.fault.TextFault.TheVariants.{UnknownKind, MinimizeRule}
+use Rattle.lparse_reader.specs.declared.fault.TextFault.TheVariants.{NegativeCount}
 use Rattle.lparse_reader.specs.declared.fault.Fault.{Fault}
 use Rattle.lparse_reader.specs.declared.fault.Fault.TheVariants.{At}
 use Rattle.lparse_reader.specs.declared.rule_text.Counts.{Counts}
 use Rattle.lparse_reader.specs.Tokens.{skipped}
-use Rattle.lparse_reader.specs.Fields.{◌>>=◌, behind, Field, number_at, atom_at, atom_or_end_at, counted_at, until_end_at, part_at, weighed_at, mark_at, models_at, end_at, entry_or_end_at}
+use Rattle.lparse_reader.specs.Fields.{◌>>=◌, behind, Field, number_at, atom_at, atom_or_end_at}
+use Rattle.lparse_reader.specs.Fields.{counted_at, until_end_at, part_at, weighed_at, mark_at}
+use Rattle.lparse_reader.specs.Fields.{models_at, end_at, entry_or_end_at}
 
 -- the kind of a number, where `from` bytes are left at it: nothing for 0
 abbrev pub kind_of : ℕ → ℕ → Result (Option Kind) Fault
@@ -40,7 +45,15 @@ counts_at bytes = do
   negatives ← number_at literals.1
   if nat_lt literals.0 negatives.0
       then Err (At NegativeCount (length (skipped literals.1)) negatives.0)
-      else Ok (record { literals = literals.0; negatives = negatives.0; positives = literals.0 - negatives.0 }, negatives.1)
+      else Ok (
+        record {
+          literals = literals.0;
+          negatives = negatives.0;
+          positives =
+              literals.0 - negatives.0;
+        },
+        negatives.1,
+      )
 
 -- the negative literals and then the positive ones
 unfoldable pub body_at : Counts → Field (List Weighted)
@@ -60,7 +73,10 @@ basic_at bytes = do
   head ← atom_at bytes
   counts ← counts_at head.1
   body ← body_at counts.0 counts.1
-  Ok (record { kind = Basic; heads = head.0 ∷ []; bound = counts.0.literals; body = body.0 }, body.1)
+  Ok (
+    record { kind = Basic; heads = head.0 ∷ []; bound = counts.0.literals; body = body.0 },
+    body.1,
+  )
 
 -- those of a constraint rule, whose bound comes before its literals
 unfoldable pub constraint_at : Field Rule
@@ -117,7 +133,16 @@ all_at field bytes = until_end_at field (length bytes) bytes
 -- a program of the greatest atom that occurs
 abbrev pub made : List Rule → List Named → List ℕ → List ℕ → ℕ → Program
 made rules names must must_not models =
-    let whole : Program = record { atoms = 0; rules = rules; names = names; must = must; must_not = must_not; models = models } in
+    let whole : Program =
+    record {
+      atoms = 0;
+      rules = rules;
+      names = names;
+      must = must;
+      must_not = must_not;
+      models =
+          models;
+    } in
     record whole { atoms = greatest (atoms_of whole) }
 
 -- the program of a whole text

@@ -5,7 +5,8 @@ use Rattle.lparse_reader.specs.declared.fault.TextFault.TheVariants.{EndOfInput}
 use Rattle.lparse_reader.specs.declared.fault.Fault.{Fault}
 use Rattle.lparse_reader.specs.declared.fault.Fault.TheVariants.{Ended, At}
 use Rattle.lparse_reader.specs.declared.fault.ReadError.{ReadError}
-use Rattle.lparse_reader.specs.declared.fault.ReadError.TheVariants.{Text, TooLong, ReadFault, NoMemory}
+use Rattle.lparse_reader.specs.declared.fault.ReadError.TheVariants.{Text, TooLong, ReadFault}
+use Rattle.lparse_reader.specs.declared.fault.ReadError.TheVariants.{NoMemory}
 use Rattle.lparse_reader.specs.Tokens.{line_at}
 
 -- a fault with the line that it names; the end of a text lies on its last line, behind all bytes
@@ -40,7 +41,8 @@ IsAnswerOfSource text (Ok value) reading = reading ≡ Ok value
 IsAnswerOfSource text (Err NoMemory) reading = Unit {0}
 IsAnswerOfSource text (Err TooLong) reading = Unit {0}
 IsAnswerOfSource text (Err ReadFault) reading = Unit {0}
-IsAnswerOfSource text (Err (Text why line value)) reading = IsRefusal text (Text why line value) reading
+IsAnswerOfSource text (Err (Text why line value)) reading =
+    IsRefusal text (Text why line value) reading
 
 -- this result is the program, unless its source failed or memory ran out
 abbrev pub IsProgramUnlessSource : Result Program ReadError → Program → Type 0

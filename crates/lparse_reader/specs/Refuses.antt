@@ -1,18 +1,26 @@
 -- Which texts are refused: the fields up to one are as the format says, and that one fails.
-use Rattle.std.specs.Prelude.{◌≡◌, ◌==◌, ◌+◌, ◌-◌, ◌*◌, ◌<◌, ◌≤◌, ◌++◌, ◌⊎◌, ℕ, true, false, if◌then◌else◌, List, [], ◌∷◌, length, Some, None, Result, Ok, Err}
+use Rattle.std.specs.Prelude.{◌≡◌, ◌==◌, ◌+◌, ◌-◌, ◌*◌, ◌<◌, ◌≤◌, ◌++◌, ◌⊎◌, ℕ, true, false}
+use Rattle.std.specs.Prelude.{if◌then◌else◌, List, [], ◌∷◌, length, Some, None, Result, Ok, Err}
 use Rattle.std.specs.List.{AllByRecursion}
 use Rattle.std.specs.Char.{is_ascii_digit}
 use Rattle.ground_program.specs.Program.{IsName}
 use Rattle.lparse_reader.specs.declared.fault.TextFault.{TextFault}
-use Rattle.lparse_reader.specs.declared.fault.TextFault.TheVariants.{NotANumber, UnknownKind, MinimizeRule, AtomZero, NumberTooLarge, NegativeCount, MissingMark, ExternalSection, NameMissing, TrailingText}
+use Rattle.lparse_reader.specs.declared.fault.TextFault.TheVariants.{NotANumber, UnknownKind}
+use Rattle.lparse_reader.specs.declared.fault.TextFault.TheVariants.{MinimizeRule, AtomZero}
+use Rattle.lparse_reader.specs.declared.fault.TextFault.TheVariants.{NumberTooLarge, NegativeCount}
+use Rattle.lparse_reader.specs.declared.fault.TextFault.TheVariants.{MissingMark, ExternalSection}
+use Rattle.lparse_reader.specs.declared.fault.TextFault.TheVariants.{NameMissing, TrailingText}
 use Rattle.lparse_reader.specs.declared.fault.Fault.{Fault}
 use Rattle.lparse_reader.specs.declared.fault.Fault.TheVariants.{Ended, At}
 use Rattle.lparse_reader.specs.declared.fault.ReadError.{ReadError}
-use Rattle.lparse_reader.specs.declared.fault.ReadError.TheVariants.{Text, TooLong, ReadFault, NoMemory}
+use Rattle.lparse_reader.specs.declared.fault.ReadError.TheVariants.{Text, TooLong, ReadFault}
+use Rattle.lparse_reader.specs.declared.fault.ReadError.TheVariants.{NoMemory}
 use Rattle.lparse_reader.specs.Tokens.{is_separator, is_token_end}
 use Rattle.lparse_reader.specs.Refusal.{told}
-use Rattle.lparse_reader.specs.Pieces.{Item, number, entry, mark, IsGap, value_of, StandsNumber, StandsMark, StandsEntry, PieceRow}
-use Rattle.lparse_reader.specs.Due.{Due, rules, atom, negative_count, entries, sign, models, whole, after_number, run}
+use Rattle.lparse_reader.specs.Pieces.{Item, number, entry, mark, IsGap, value_of, StandsNumber}
+use Rattle.lparse_reader.specs.Pieces.{StandsMark, StandsEntry, PieceRow}
+use Rattle.lparse_reader.specs.Due.{Due, rules, atom, negative_count, entries, sign, models, whole}
+use Rattle.lparse_reader.specs.Due.{after_number, run}
 
 -- no token is left
 pub record NoToken (bytes : List ℕ) (fault : Fault) : Type 0 where
@@ -23,7 +31,8 @@ pub record NoToken (bytes : List ℕ) (fault : Fault) : Type 0 where
 abbrev pub IsWrong : ℕ → ℕ → ℕ → Fault → Type 0
 IsWrong left value byte fault =
     ((is_ascii_digit byte ≡ false) × (fault ≡ At NotANumber left byte))
-    ⊎ ((is_ascii_digit byte ≡ true) × (2147483647 < 10 * value + (byte - 48)) × (fault ≡ At NumberTooLarge left (10 * value + (byte - 48))))
+    ⊎ ((is_ascii_digit byte ≡ true) × (2147483647 < 10 * value + (byte - 48))
+    × (fault ≡ At NumberTooLarge left (10 * value + (byte - 48))))
 
 -- a token is no number: digits of a number, and then the byte that is wrong
 pub record BadNumber (bytes : List ℕ) (fault : Fault) : Type 0 where
@@ -40,7 +49,8 @@ pub record BadNumber (bytes : List ℕ) (fault : Fault) : Type 0 where
 
 -- how a number is told that may not stand in the place of a field
 abbrev pub bad_value : Due → ℕ → ℕ → Fault
-bad_value rules left value = if value == 6 then At MinimizeRule left 6 else At UnknownKind left value
+bad_value rules left value =
+    if value == 6 then At MinimizeRule left 6 else At UnknownKind left value
 bad_value atom left value = At AtomZero left 0
 bad_value (negative_count extra literals) left value = At NegativeCount left value
 bad_value entries left value = At NameMissing left value
@@ -57,7 +67,8 @@ pub record BadValue (due : Due) (bytes : List ℕ) (fault : Fault) : Type 0 wher
 -- an atom without a name: no entry stands here
 pub record NoName (bytes : List ℕ) (fault : Fault) : Type 0 where
   pub bad : BadValue entries bytes fault
-  pub no_entry : (value : ℕ) (name rest : List ℕ) → IsName name → StandsEntry value name bytes rest → ⊥
+  pub no_entry : (value : ℕ) (name rest : List ℕ) → IsName name → StandsEntry value name bytes rest
+      → ⊥
 
 -- a token stands where a mark is due, and no mark
 pub record NoMark (letter place : ℕ) (bytes : List ℕ) (fault : Fault) : Type 0 where

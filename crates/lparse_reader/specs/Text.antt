@@ -1,4 +1,5 @@
--- The canonical text of a program in the numeric format. Each rule, entry and atom has a line of its own.
+-- The canonical text of a program in the numeric format. Each rule, entry and atom has a line of
+-- its own.
 use Rattle.std.specs.Prelude.{ℕ, List, ◌++◌, flat_map, decimal, codes}
 use Rattle.ground_program.specs.declared.program.Rule.{Rule}
 use Rattle.ground_program.specs.declared.program.Named.{Named}
@@ -15,7 +16,9 @@ next_fields numbers = flat_map next_field numbers
 
 -- the line of a rule: its kind, and then each field behind a blank
 abbrev pub rule_line : Rule → List ℕ
-rule_line rule = decimal (kind_number rule.kind) ++ next_fields (numbers_of_kind rule.kind rule.heads rule.bound rule.body) ++ codes "\n"
+rule_line rule =
+    decimal (kind_number rule.kind)
+    ++ next_fields (numbers_of_kind rule.kind rule.heads rule.bound rule.body) ++ codes "\n"
 
 -- the line of an entry of the symbol table
 abbrev pub entry_line : Named → List ℕ

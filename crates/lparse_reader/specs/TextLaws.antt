@@ -16,4 +16,5 @@ ReadingGivesBack = (program : Program) → IsProgram program → program_at (tex
 
 -- two programs with one text are the same
 abbrev pub TextTellsProgram : Type 0
-TextTellsProgram = (one other : Program) → IsProgram one → IsProgram other → text one ≡ text other → one ≡ other
+TextTellsProgram =
+    (one other : Program) → IsProgram one → IsProgram other → text one ≡ text other → one ≡ other

@@ -1,5 +1,6 @@
 -- Separators, and the lines of a text.
-use Rattle.std.specs.Prelude.{◌==◌, ◌+◌, ◌-◌, ◌||◌, ℕ, Bool, true, if◌then◌else◌, List, [], ◌∷◌, length, take, count_by}
+use Rattle.std.specs.Prelude.{◌==◌, ◌+◌, ◌-◌, ◌||◌, ℕ, Bool, true, if◌then◌else◌, List, [], ◌∷◌}
+use Rattle.std.specs.Prelude.{length, take, count_by}
 
 -- blanks, tabs, line feeds and carriage returns stand between tokens
 abbrev pub is_separator : ℕ → Bool

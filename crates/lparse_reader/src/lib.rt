@@ -1,4 +1,5 @@
-//! Reads ground programs in the numeric format, and names the first thing that is wrong with a text. Prints them again.
+//! Reads ground programs in the numeric format, and names the first thing that is wrong with a
+//! text. Prints them again.
 #![tactic(auto)]
 
 mod compute_text;

@@ -2,9 +2,12 @@
 ghost use Rattle.std.specs.Prelude.{◌≡◌, ◌∷◌, [], ℕ, List, length};
 ghost use Rattle.byte_edges.specs.Edges.{Writes};
 ghost use Rattle.ground_program.specs.Program.{IsProgram};
-ghost use Rattle.ground_program.specs.declared.program.Kind.TheVariants.{Basic, Constraint, Choice, Weight, Disjunctive};
-ghost use Rattle.lparse_reader.specs.Pieces.{kind_number, numbers_of_kind, body_atoms, body_weights, negatives};
-ghost use Rattle.lparse_reader.specs.Text.{next_field, next_fields, rule_line, entry_line, number_line, ended_lines, marked_atoms, text};
+ghost use Rattle.ground_program.specs.declared.program.Kind.TheVariants.{Basic, Constraint, Choice};
+ghost use Rattle.ground_program.specs.declared.program.Kind.TheVariants.{Weight, Disjunctive};
+ghost use Rattle.lparse_reader.specs.Pieces.{kind_number, numbers_of_kind, body_atoms};
+ghost use Rattle.lparse_reader.specs.Pieces.{body_weights, negatives};
+ghost use Rattle.lparse_reader.specs.Text.{next_field, next_fields, rule_line, entry_line};
+ghost use Rattle.lparse_reader.specs.Text.{number_line, ended_lines, marked_atoms, text};
 
 use byte_edges::{Sink, WriteFault, write_bytes};
 use ground_program::{Kind, Named, Program, Rule, Weighted};
@@ -90,7 +93,9 @@ fn number_of_kind(kind: Kind) -> u64
 
 // The fields of a rule after its kind.
 fn print_fields<K: Sink>(rule: &Rule, sink: &mut K) -> Result<(), WriteFault>
-    ensures { Writes K.written K.faults sink.old sink.new (next_fields (numbers_of_kind rule.now.kind rule.now.heads rule.now.bound rule.now.body)) result }
+    ensures { Writes K.written K.faults sink.old sink.new
+        (next_fields (numbers_of_kind rule.now.kind rule.now.heads rule.now.bound rule.now.body))
+        result }
 {
     match rule.kind {
         Kind::Basic => print_basic(rule, sink),
@@ -101,7 +106,8 @@ fn print_fields<K: Sink>(rule: &Rule, sink: &mut K) -> Result<(), WriteFault>
 }
 
 fn print_basic<K: Sink>(rule: &Rule, sink: &mut K) -> Result<(), WriteFault>
-    ensures { Writes K.written K.faults sink.old sink.new (next_fields (numbers_of_kind Basic rule.now.heads rule.now.bound rule.now.body)) result }
+    ensures { Writes K.written K.faults sink.old sink.new
+        (next_fields (numbers_of_kind Basic rule.now.heads rule.now.bound rule.now.body)) result }
 {
     print_numbers(rule.heads.as_slice(), sink)?;
     print_counts(rule.body.as_slice(), sink)?;
@@ -109,7 +115,9 @@ fn print_basic<K: Sink>(rule: &Rule, sink: &mut K) -> Result<(), WriteFault>
 }
 
 fn print_constraint<K: Sink>(rule: &Rule, sink: &mut K) -> Result<(), WriteFault>
-    ensures { Writes K.written K.faults sink.old sink.new (next_fields (numbers_of_kind Constraint rule.now.heads rule.now.bound rule.now.body)) result }
+    ensures { Writes K.written K.faults sink.old sink.new
+        (next_fields (numbers_of_kind Constraint rule.now.heads rule.now.bound rule.now.body))
+        result }
 {
     print_numbers(rule.heads.as_slice(), sink)?;
     print_counts(rule.body.as_slice(), sink)?;
@@ -118,7 +126,8 @@ fn print_constraint<K: Sink>(rule: &Rule, sink: &mut K) -> Result<(), WriteFault
 }
 
 fn print_many_heads<K: Sink>(rule: &Rule, sink: &mut K) -> Result<(), WriteFault>
-    ensures { Writes K.written K.faults sink.old sink.new (next_fields (numbers_of_kind Choice rule.now.heads rule.now.bound rule.now.body)) result }
+    ensures { Writes K.written K.faults sink.old sink.new
+        (next_fields (numbers_of_kind Choice rule.now.heads rule.now.bound rule.now.body)) result }
 {
     print_number(rule.heads.len() as u64, sink)?;
     print_numbers(rule.heads.as_slice(), sink)?;
@@ -127,7 +136,8 @@ fn print_many_heads<K: Sink>(rule: &Rule, sink: &mut K) -> Result<(), WriteFault
 }
 
 fn print_weight<K: Sink>(rule: &Rule, sink: &mut K) -> Result<(), WriteFault>
-    ensures { Writes K.written K.faults sink.old sink.new (next_fields (numbers_of_kind Weight rule.now.heads rule.now.bound rule.now.body)) result }
+    ensures { Writes K.written K.faults sink.old sink.new
+        (next_fields (numbers_of_kind Weight rule.now.heads rule.now.bound rule.now.body)) result }
 {
     print_numbers(rule.heads.as_slice(), sink)?;
     print_number(rule.bound as u64, sink)?;
@@ -138,7 +148,8 @@ fn print_weight<K: Sink>(rule: &Rule, sink: &mut K) -> Result<(), WriteFault>
 
 // The number of literals, and how many of them are negative.
 fn print_counts<K: Sink>(body: &[Weighted], sink: &mut K) -> Result<(), WriteFault>
-    ensures { Writes K.written K.faults sink.old sink.new (next_fields (length body.now ∷ negatives body.now ∷ [])) result }
+    ensures { Writes K.written K.faults sink.old sink.new
+        (next_fields (length body.now ∷ negatives body.now ∷ [])) result }
 {
     print_number(body.len() as u64, sink)?;
     print_number(negatives_of(body) as u64, sink)
@@ -151,7 +162,8 @@ fn negatives_of(body: &[Weighted]) -> usize
 }
 
 fn print_literals<K: Sink>(body: &[Weighted], sink: &mut K) -> Result<(), WriteFault>
-    ensures { Writes K.written K.faults sink.old sink.new (next_fields (body_atoms body.now)) result }
+    ensures { Writes K.written K.faults sink.old sink.new (next_fields (body_atoms body.now))
+        result }
 {
     for part in body {
         print_number(part.lit.atom as u64, sink)?;
@@ -160,7 +172,8 @@ fn print_literals<K: Sink>(body: &[Weighted], sink: &mut K) -> Result<(), WriteF
 }
 
 fn print_weights<K: Sink>(body: &[Weighted], sink: &mut K) -> Result<(), WriteFault>
-    ensures { Writes K.written K.faults sink.old sink.new (next_fields (body_weights body.now)) result }
+    ensures { Writes K.written K.faults sink.old sink.new (next_fields (body_weights body.now))
+        result }
 {
     for part in body {
         print_number(part.weight as u64, sink)?;

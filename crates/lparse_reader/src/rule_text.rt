@@ -1,7 +1,10 @@
 // Rules.
 ghost use Rattle.std.specs.Prelude.{◌≡◌, [], ◌∷◌, IfOk};
-ghost use Rattle.lparse_reader.specs.Fields.{ReadsAs, behind, counted_at, atom_at, part_at, weighed_at};
-ghost use Rattle.lparse_reader.specs.Reading.{kind_or_end_at, counts_at, body_at, heads_at, basic_at, constraint_at, weight_at, many_heads_at, rule_at, rule_or_end_at, all_at};
+ghost use Rattle.lparse_reader.specs.Fields.{ReadsAs, behind, counted_at, atom_at, part_at};
+ghost use Rattle.lparse_reader.specs.Fields.{weighed_at};
+ghost use Rattle.lparse_reader.specs.Reading.{kind_or_end_at, counts_at, body_at, heads_at};
+ghost use Rattle.lparse_reader.specs.Reading.{basic_at, constraint_at, weight_at, many_heads_at};
+ghost use Rattle.lparse_reader.specs.Reading.{rule_at, rule_or_end_at, all_at};
 
 use crate::fault::{Fault, Stop, TextFault};
 use crate::token_text::{fault_here, next_token, read_atom, read_number};
@@ -229,7 +232,8 @@ fn read_parts(
     count: u32,
     bytes: &[u8],
 ) -> Result<(Body, &[u8]), Stop>
-    ensures { ReadsAs (λ x. (x.0, x.1.now)) result (behind before (counted_at (part_at negated) count bytes.now)) }
+    ensures { ReadsAs (λ x. (x.0, x.1.now)) result
+        (behind before (counted_at (part_at negated) count bytes.now)) }
 {
     let mut body = before;
     let mut rest = bytes;

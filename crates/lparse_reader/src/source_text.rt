@@ -1,5 +1,6 @@
 // Texts from a source.
-ghost use Rattle.std.specs.Prelude.{◌≡◌, ◌≤◌, ◌<◌, ◌+◌, ℕ, [], Some, length, drop, IfOk, IfErr, IfSome, OnOk, IsErrOf};
+ghost use Rattle.std.specs.Prelude.{◌≡◌, ◌≤◌, ◌<◌, ◌+◌, ℕ, [], Some, length, drop, IfOk, IfErr};
+ghost use Rattle.std.specs.Prelude.{IfSome, OnOk, IsErrOf};
 ghost use Rattle.ground_program.specs.declared.program.Program.{Program};
 ghost use Rattle.ground_program.specs.Program.{IsProgram};
 ghost use Rattle.byte_edges.specs.Faults.{Rose};
@@ -8,7 +9,8 @@ ghost use Rattle.lparse_reader.specs.declared.fault.TextFault.{TextFault};
 ghost use Rattle.lparse_reader.specs.Pieces.{Reads};
 ghost use Rattle.lparse_reader.specs.Refuses.{Refuses, IsRefusedOfSource, IsTextUnlessSource};
 ghost use Rattle.lparse_reader.specs.Reading.{program_at};
-ghost use Rattle.lparse_reader.specs.Refusal.{IsAnswerOfSource, IsProgramUnlessSource, IsShortIfRead};
+ghost use Rattle.lparse_reader.specs.Refusal.{IsAnswerOfSource, IsProgramUnlessSource};
+ghost use Rattle.lparse_reader.specs.Refusal.{IsShortIfRead};
 
 use crate::fault::ReadError;
 use crate::whole_text::parse;
@@ -22,22 +24,28 @@ const LONGEST: u64 = 67_108_864;
 /// The program of all bytes that a source has left, or the first thing that is wrong with them.
 pub fn read_program<S: Source>(alloc: Global, source: &mut S) -> Result<Program, ReadError>
     ensures valid { IfOk result IsProgram }
-    ensures read { IfOk result (λ program. IfSome (S.left source.old) (λ bytes. Reads bytes program)) }
+    ensures read { IfOk result
+        (λ program. IfSome (S.left source.old) (λ bytes. Reads bytes program)) }
     ensures end { OnOk result (IfSome (S.left source.old) (λ _. S.left source.new ≡ Some [])) }
 
     // What stands in the text is read, unless the source fails or memory runs out.
-    ensures all_read { IfSome (S.left source.old) (λ bytes. (program : Program) → length bytes ≤ 67108864
+    ensures all_read { IfSome (S.left source.old)
+        (λ bytes. (program : Program) → length bytes ≤ 67108864
         → Reads bytes program → IsProgramUnlessSource result program) }
 
     // A text that is refused is told so, unless the source fails or memory runs out.
-    ensures refused { IfErr result (λ error. IfSome (S.left source.old) (λ bytes. IsRefusedOfSource bytes error)) }
-    ensures all_refused { IfSome (S.left source.old) (λ bytes. (why : TextFault) (line value : ℕ) → length bytes ≤ 67108864
+    ensures refused { IfErr result
+        (λ error. IfSome (S.left source.old) (λ bytes. IsRefusedOfSource bytes error)) }
+    ensures all_refused { IfSome (S.left source.old)
+        (λ bytes. (why : TextFault) (line value : ℕ) → length bytes ≤ 67108864
         → Refuses bytes why line value → IsTextUnlessSource result why line value) }
 
     // Both by reading from left to right.
-    ensures exact { IfSome (S.left source.old) (λ bytes. IsAnswerOfSource bytes result (program_at bytes)) }
+    ensures exact { IfSome (S.left source.old)
+        (λ bytes. IsAnswerOfSource bytes result (program_at bytes)) }
 
-    ensures read_fault { IsErrOf result ReadError.ReadFault → Rose (S.faults source.old) (S.faults source.new) }
+    ensures read_fault { IsErrOf result ReadError.ReadFault
+        → Rose (S.faults source.old) (S.faults source.new) }
 
     // 67,108,864 bytes were taken and one more.
     ensures too_long { IsErrOf result ReadError.TooLong → IfSome (S.left source.old)

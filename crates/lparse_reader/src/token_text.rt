@@ -1,7 +1,8 @@
 // The fields that are one token.
 ghost use Rattle.std.specs.Prelude.{◌≡◌, [], length};
 ghost use Rattle.lparse_reader.specs.Tokens.{is_separator, skipped, is_token_end};
-ghost use Rattle.lparse_reader.specs.Fields.{ReadsAs, digits_at, number_at, atom_at, atom_or_end_at, mark_at, models_at, end_at};
+ghost use Rattle.lparse_reader.specs.Fields.{ReadsAs, digits_at, number_at, atom_at};
+ghost use Rattle.lparse_reader.specs.Fields.{atom_or_end_at, mark_at, models_at, end_at};
 
 use crate::fault::{Fault, Stop, TextFault};
 

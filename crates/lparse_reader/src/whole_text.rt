@@ -24,8 +24,10 @@ pub fn parse(alloc: Global, bytes: &[u8]) -> Result<Program, ReadError>
     // What is read stands in the text.
     ensures read { IfOk result (Reads bytes.now) }
     // What stands in the text is read, unless memory runs out.
-    ensures all_read { (program : Program) → Reads bytes.now program → IsProgramUnlessNoMemory result program }
-    // What is told is why the text is refused, and what is refused is told so, unless memory runs out.
+    ensures all_read { (program : Program) → Reads bytes.now program
+        → IsProgramUnlessNoMemory result program }
+    // What is told is why the text is refused, and what is refused is told so, unless memory runs
+    // out.
     ensures refused { IfErr result (IsRefused bytes.now) }
     ensures all_refused { (why : TextFault) (line value : ℕ) → Refuses bytes.now why line value
         → IsTextUnlessNoMemory result why line value }

@@ -1,5 +1,6 @@
 -- Bodies with each literal once: what merging a rule's body gives, and when such a body holds.
-use Rattle.std.specs.Prelude.{◌≡◌, ◌≤◌, ◌<◌, ◌+◌, ℕ, Bool, false, not, ◌&&◌, nat_eq, nat_le, if◌then◌else◌, List, All, Any, AllPairs, sum_by}
+use Rattle.std.specs.Prelude.{◌≡◌, ◌≤◌, ◌<◌, ◌+◌, ℕ, Bool, false, not, ◌&&◌, nat_eq, nat_le}
+use Rattle.std.specs.Prelude.{if◌then◌else◌, List, All, Any, AllPairs, sum_by}
 use Rattle.std.specs.List.{list_all}
 use Rattle.ground_program.specs.declared.program.AtomLit.{AtomLit}
 use Rattle.ground_program.specs.declared.program.Weighted.{Weighted}
@@ -19,7 +20,8 @@ is_same one two = nat_eq (rank one) (rank two)
 abbrev pub total_weight : List Weighted → AtomLit → ℕ
 total_weight body lit = sum_by (λ item. if is_same item.lit lit then item.weight else 0) body
 
--- the parts have just the literals of the body, each once and in order, with the sums of their weights
+-- the parts have just the literals of the body, each once and in order, with the sums of their
+-- weights
 pub record IsMerged (body : List Weighted) (parts : List Part) : Type 0 where
   pub order : AllPairs (λ earlier later. rank earlier.lit < rank later.lit) parts
   pub weights : All (λ part. part.weight ≡ total_weight body part.lit) parts
@@ -30,7 +32,8 @@ pub record IsMerged (body : List Weighted) (parts : List Part) : Type 0 where
 abbrev pub full_weight : BodyOf → ℕ
 full_weight body = sum_by (λ part. part.weight) body.parts
 
--- whether the body asks for all its literals: the bound is the sum of the weights, and no weight is 0
+-- whether the body asks for all its literals: the bound is the sum of the weights, and no weight is
+-- 0
 abbrev pub is_conjunctive : BodyOf → Bool
 is_conjunctive body =
     nat_eq body.bound (full_weight body) && list_all (λ part. not (nat_eq part.weight 0)) body.parts

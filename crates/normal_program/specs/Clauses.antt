@@ -1,9 +1,11 @@
 -- The clauses that hold in every answer set, and what it means that a clause does.
-use Rattle.std.specs.Prelude.{zero, suc, ◌+◌, ◌*◌, nat_eq, ℕ, Bool, true, false, not, if◌then◌else◌, List, [], ◌∷◌, ◌++◌, map, filter, flat_map, IsTrue}
+use Rattle.std.specs.Prelude.{zero, suc, ◌+◌, ◌*◌, nat_eq, ℕ, Bool, true, false, not, if◌then◌else◌}
+use Rattle.std.specs.Prelude.{List, [], ◌∷◌, ◌++◌, map, filter, flat_map, IsTrue}
 use Rattle.std.specs.List.{AllZip, list_any, enumerate_from}
 use Rattle.ground_program.specs.declared.program.AtomLit.{AtomLit}
 use Rattle.ground_program.specs.declared.program.Kind.{Kind}
-use Rattle.ground_program.specs.declared.program.Kind.TheVariants.{Basic, Constraint, Choice, Weight, Disjunctive}
+use Rattle.ground_program.specs.declared.program.Kind.TheVariants.{Basic, Constraint, Choice}
+use Rattle.ground_program.specs.declared.program.Kind.TheVariants.{Weight, Disjunctive}
 use Rattle.clause_store.specs.declared.literal.Lit.{Lit}
 use Rattle.clause_store.specs.Clause.{negation, HoldsIn}
 use Rattle.normal_program.specs.declared.normal.Part.{Part}
@@ -47,7 +49,8 @@ cleaned clauses = filter (λ clause. not (is_tautology clause)) (map each_once c
 
 -- a variable that is true exactly where all of these literals are
 abbrev pub all_clauses : ℕ → List Lit → List (List Lit)
-all_clauses var lits = map (λ lit. negative var ∷ lit ∷ []) lits ++ (positive var ∷ map negation lits) ∷ []
+all_clauses var lits =
+    map (λ lit. negative var ∷ lit ∷ []) lits ++ (positive var ∷ map negation lits) ∷ []
 
 -- the literals of a body
 abbrev pub literals_of : List Part → List Lit
@@ -60,7 +63,8 @@ numbered_bodies normal = enumerate_from 0 normal.bodies
 -- what a conjunctive body means
 abbrev pub body_clauses : Normal → ℕ × BodyOf → List (List Lit)
 body_clauses normal body =
-    if is_conjunctive body.1 then all_clauses (body_var normal body.0) (literals_of body.1.parts) else []
+    if is_conjunctive body.1 then all_clauses (body_var normal body.0) (literals_of body.1.parts)
+    else []
 
 -- whether the kind is that of choice rules
 abbrev pub is_choice : Kind → Bool
@@ -73,7 +77,8 @@ is_choice Disjunctive = false
 -- a rule that isn't a choice rule: where the body holds, some head is true
 abbrev pub rule_clauses : Normal → NormalRule → List (List Lit)
 rule_clauses normal rule =
-    if is_choice rule.kind then [] else (negative (body_var normal rule.body) ∷ map positive rule.heads) ∷ []
+    if is_choice rule.kind then []
+    else (negative (body_var normal rule.body) ∷ map positive rule.heads) ∷ []
 
 -- whether a list of atoms has an atom
 abbrev pub has_atom : List ℕ → ℕ → Bool
@@ -103,21 +108,27 @@ alone lit = lit ∷ []
 -- the compute statement
 abbrev pub compute_clauses : Normal → List (List Lit)
 compute_clauses normal =
-    map (λ atom. alone (positive atom)) normal.must ++ map (λ atom. alone (negative atom)) normal.must_not
+    map (λ atom. alone (positive atom)) normal.must
+    ++ map (λ atom. alone (negative atom)) normal.must_not
 
--- the base clauses, in their order: conjunctive bodies, rules, the support of each atom, the compute statement
+-- the base clauses, in their order: conjunctive bodies, rules, the support of each atom, the
+-- compute statement
 abbrev pub base_clauses : Normal → List (List Lit)
 base_clauses normal =
     cleaned
-    (flat_map (body_clauses normal) (numbered_bodies normal) ++ flat_map (rule_clauses normal) normal.rules
+    (flat_map (body_clauses normal) (numbered_bodies normal)
+    ++ flat_map (rule_clauses normal) normal.rules
     ++ map (support_clause normal) (atoms_of_normal normal) ++ compute_clauses normal)
 
 -- selectors in use have a value each, and one that is on has its disjunction true
 abbrev pub AreChosen : List Bool → List (List Lit) → List Bool → Type 0
-AreChosen values disjunctions chosen = AllZip (λ any on. IsTrue on → HoldsIn values any) disjunctions chosen
+AreChosen values disjunctions chosen =
+    AllZip (λ any on. IsTrue on → HoldsIn values any) disjunctions chosen
 
--- the clause holds for each answer set in its extension, with each choice of the selectors whose disjunctions these are
+-- the clause holds for each answer set in its extension, with each choice of the selectors whose
+-- disjunctions these are
 abbrev pub IsEntailed : Normal → List (List Lit) → List Lit → Type 0
 IsEntailed normal disjunctions clause =
-    (set chosen : List Bool) → IsAnswerSetN normal set → AreChosen (extension normal set set) disjunctions chosen →
+    (set chosen : List Bool) → IsAnswerSetN normal set
+    → AreChosen (extension normal set set) disjunctions chosen →
     HoldsIn (extension normal set set ++ chosen) clause

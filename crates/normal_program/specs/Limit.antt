@@ -8,7 +8,8 @@ use Rattle.normal_program.specs.Normal.{IsNormalFormOf, variables}
 
 -- the number of variables of the normal form of a program
 abbrev pub HasVariables : Program → ℕ → Type 0
-HasVariables program count = (normal : Normal) × IsNormalFormOf normal program × (variables normal ≡ count)
+HasVariables program count =
+    (normal : Normal) × IsNormalFormOf normal program × (variables normal ≡ count)
 
 -- the normal form of some program, with few enough variables
 pub record IsNormal (normal : Normal) : Type 0 where

@@ -8,7 +8,8 @@ use Rattle.normal_program.specs.declared.normal.Normal.{Normal}
 use Rattle.normal_program.specs.Body.{IsWeightBody, body_holds}
 use Rattle.normal_program.specs.Normal.{body_var, extension, KeepsAllN, MeetsComputeN}
 
--- a truth value for each variable of an atom or a body; the one at place 0 belongs to no variable and is false
+-- a truth value for each variable of an atom or a body; the one at place 0 belongs to no variable
+-- and is false
 pub record IsAssignmentOf (normal : Normal) (values : List Bool) : Type 0 where
   pub variables : length values ≡ normal.atoms + 1 + length normal.bodies
   pub no_variable : slice_get values 0 ≡ Some false
@@ -21,9 +22,11 @@ set_of normal values = take (normal.atoms + 1) values
 abbrev pub MeansWeightBodies : Normal → List Bool → Type 0
 MeansWeightBodies normal values =
     (number : ℕ) (body : BodyOf) → slice_get normal.bodies number ≡ Some body → IsWeightBody body →
-    truth values (body_var normal number) ≡ body_holds (set_of normal values) (set_of normal values) body
+    truth values (body_var normal number)
+    ≡ body_holds (set_of normal values) (set_of normal values) body
 
--- an assignment is the extension of a set that keeps all rules of its reduct and meets the compute statement
+-- an assignment is the extension of a set that keeps all rules of its reduct and meets the compute
+-- statement
 pub record IsModelOf (normal : Normal) (values : List Bool) : Type 0 where
   pub over : IsSetOver normal.atoms (set_of normal values)
   pub extends : values ≡ extension normal (set_of normal values) (set_of normal values)

@@ -1,9 +1,11 @@
 -- The normal form of a program: which one it is, what its rules mean, and its variables.
-use Rattle.std.specs.Prelude.{◌≡◌, ◌≢◌, ◌<◌, ◌+◌, ◌↔◌, ℕ, Bool, List, ◌++◌, length, map, take, All, Any, AllPairs, Some, slice_get, IsSomeAnd}
+use Rattle.std.specs.Prelude.{◌≡◌, ◌≢◌, ◌<◌, ◌+◌, ◌↔◌, ℕ, Bool, List, ◌++◌, length, map, take, All}
+use Rattle.std.specs.Prelude.{Any, AllPairs, Some, slice_get, IsSomeAnd}
 use Rattle.std.specs.List.{AllZip}
 use Rattle.ground_program.specs.declared.program.Rule.{Rule}
 use Rattle.ground_program.specs.declared.program.Program.{Program}
-use Rattle.ground_program.specs.Meaning.{IsIn, HeadHolds, IsSetOver, IsProperSubset, IsAnswerSet, BodyHolds}
+use Rattle.ground_program.specs.Meaning.{IsIn, HeadHolds, IsSetOver, IsProperSubset, IsAnswerSet}
+use Rattle.ground_program.specs.Meaning.{BodyHolds}
 use Rattle.normal_program.specs.declared.normal.BodyOf.{BodyOf}
 use Rattle.normal_program.specs.declared.normal.NormalRule.{NormalRule}
 use Rattle.normal_program.specs.declared.normal.Normal.{Normal}
@@ -14,7 +16,8 @@ pub record IsBodyOf (rule : Rule) (body : BodyOf) : Type 0 where
   pub bound : body.bound ≡ rule.bound
   pub parts : IsMerged rule.body body.parts
 
--- a normal rule stands for a rule: the kind and the heads are the same, and its number is that of the merged body
+-- a normal rule stands for a rule: the kind and the heads are the same, and its number is that of
+-- the merged body
 pub record StandsFor (bodies : List BodyOf) (normal : NormalRule) (rule : Rule) : Type 0 where
   pub kind : normal.kind ≡ rule.kind
   pub heads : normal.heads ≡ rule.heads
@@ -24,14 +27,17 @@ pub record StandsFor (bodies : List BodyOf) (normal : NormalRule) (rule : Rule) 
 abbrev pub HasNumber : List NormalRule → ℕ → Type 0
 HasNumber rules number = Any (λ rule. rule.body ≡ number) rules
 
--- bodies are numbered in order of first occurrence: a rule's number is new only where all smaller ones occurred
+-- bodies are numbered in order of first occurrence: a rule's number is new only where all smaller
+-- ones occurred
 abbrev pub AreInOrder : List NormalRule → Type 0
 AreInOrder rules =
     (at : ℕ) (rule : NormalRule) → slice_get rules at ≡ Some rule →
     (number : ℕ) → number < rule.body → HasNumber (take at rules) number
 
--- the numbering of the bodies of rules: each body has one number, and each number is that of some rule's body
-pub record AreNumbered (bodies : List BodyOf) (normals : List NormalRule) (rules : List Rule) : Type 0 where
+-- the numbering of the bodies of rules: each body has one number, and each number is that of some
+-- rule's body
+pub record AreNumbered (bodies : List BodyOf) (normals : List NormalRule) (rules : List Rule) :
+    Type 0 where
   pub each : AllZip (StandsFor bodies) normals rules
   pub differ : AllPairs (λ earlier later. earlier ≢ later) bodies
   pub used : (number : ℕ) → number < length bodies → HasNumber normals number
@@ -88,12 +94,16 @@ pub record IsAnswerSetN (normal : Normal) (set : List Bool) : Type 0 where
 -- the bodies of the rules hold for the same pairs of sets
 abbrev pub SameBodies : Normal → Program → Type 0
 SameBodies normal program =
-    (by set : List Bool) → AllZip (λ rule source. RuleBodyHolds normal.bodies by set rule ↔ BodyHolds by set source) normal.rules program.rules
+    (by set : List Bool)
+    → AllZip (λ rule source. RuleBodyHolds normal.bodies by set rule ↔ BodyHolds by set source)
+    normal.rules program.rules
 
 -- the answer sets are the same
 abbrev pub SameAnswerSets : Normal → Program → Type 0
-SameAnswerSets normal program = (set : List Bool) → IsAnswerSetN normal set ↔ IsAnswerSet program set
+SameAnswerSets normal program =
+    (set : List Bool) → IsAnswerSetN normal set ↔ IsAnswerSet program set
 
--- the extension: the truth values of the atoms of `set`, then for each body whether it holds in `set` by `by`
+-- the extension: the truth values of the atoms of `set`, then for each body whether it holds in
+-- `set` by `by`
 abbrev pub extension : Normal → List Bool → List Bool → List Bool
 extension normal by set = set ++ map (body_holds by set) normal.bodies

@@ -1,5 +1,8 @@
--- What it means that a test is spent: its units are worth counting, and follow from what they are said to follow from.
-use Rattle.std.specs.Prelude.{◌≡◌, ◌⊎◌, ◌&&◌, not, ℕ, Bool, if◌then◌else◌, List, [], ◌∷◌, ◌++◌, length, map, filter, flat_map, All, Any, IfSome, IfNone, MatchOption, ⊤}
+-- What it means that a test is spent: its units are worth counting, and follow from what they are
+-- said to follow from.
+use Rattle.std.specs.Prelude.{◌≡◌, ◌⊎◌, ◌&&◌, not, ℕ, Bool, if◌then◌else◌, List, [], ◌∷◌, ◌++◌}
+use Rattle.std.specs.Prelude.{length, map, filter, flat_map, All, Any, IfSome, IfNone, MatchOption}
+use Rattle.std.specs.Prelude.{⊤}
 use Rattle.std.specs.List.{list_any}
 use Rattle.ground_program.specs.declared.program.Kind.TheVariants.{Disjunctive}
 use Rattle.ground_program.specs.Meaning.{has, IsSetOver}
@@ -12,8 +15,11 @@ use Rattle.normal_program.specs.declared.normal.NormalRule.{NormalRule}
 use Rattle.normal_program.specs.declared.normal.Normal.{Normal}
 use Rattle.normal_program.specs.declared.spent.SpentTest.{SpentTest}
 use Rattle.normal_program.specs.Body.{is_conjunctive}
-use Rattle.normal_program.specs.Normal.{body_var, greatest_body_var, extension, KeepsAllN, MeetsComputeN}
-use Rattle.normal_program.specs.Clauses.{positive, negative, alone, all_clauses, literals_of, numbered_bodies, is_choice, rule_clauses, atoms_of_normal, cleaned, base_clauses, IsEntailed}
+use Rattle.normal_program.specs.Normal.{body_var, greatest_body_var, extension, KeepsAllN}
+use Rattle.normal_program.specs.Normal.{MeetsComputeN}
+use Rattle.normal_program.specs.Clauses.{positive, negative, alone, all_clauses, literals_of}
+use Rattle.normal_program.specs.Clauses.{numbered_bodies, is_choice, rule_clauses, atoms_of_normal}
+use Rattle.normal_program.specs.Clauses.{cleaned, base_clauses, IsEntailed}
 use Rattle.normal_program.specs.Loop.{IsLocal, IsLocalWithin}
 
 -- whether a body has a negative literal whose atom is in the set
@@ -31,7 +37,8 @@ atoms_in normal set = filter (has set) (atoms_of_normal normal)
 abbrev pub atoms_outside : Normal → List Bool → List ℕ
 atoms_outside normal set = filter (λ atom. not (has set atom)) (atoms_of_normal normal)
 
--- what a conjunctive body means in the parts of a set, where its negative literals are judged by the set
+-- what a conjunctive body means in the parts of a set, where its negative literals are judged by
+-- the set
 abbrev pub inner_body_clauses : Normal → List Bool → ℕ × BodyOf → List (List Lit)
 inner_body_clauses normal set body =
     if not (is_conjunctive body.1) then []
@@ -43,16 +50,19 @@ inner_body_clauses normal set body =
 abbrev pub inner_choice_clauses : Normal → List Bool → NormalRule → List (List Lit)
 inner_choice_clauses normal set rule =
     if is_choice rule.kind
-    then map (λ head. negative (body_var normal rule.body) ∷ positive head ∷ []) (filter (has set) rule.heads)
+    then map (λ head. negative (body_var normal rule.body) ∷ positive head ∷ [])
+    (filter (has set) rule.heads)
     else []
 
 -- the clauses of a search for a proper part of a set that keeps the rules of the reduct by the set
 abbrev pub inner_clauses : Normal → List Bool → List (List Lit)
 inner_clauses normal set =
     cleaned
-    (map (λ atom. alone (negative atom)) (atoms_outside normal set) ++ map negative (atoms_in normal set) ∷ []
+    (map (λ atom. alone (negative atom)) (atoms_outside normal set)
+    ++ map negative (atoms_in normal set) ∷ []
     ++ flat_map (inner_body_clauses normal set) (numbered_bodies normal)
-    ++ flat_map (rule_clauses normal) normal.rules ++ flat_map (inner_choice_clauses normal set) normal.rules)
+    ++ flat_map (rule_clauses normal) normal.rules
+    ++ flat_map (inner_choice_clauses normal set) normal.rules)
 
 -- some clauses of a kind, with the given ones, refute the negations of a clause
 abbrev pub RefutedWith : (List Lit → Type 0) → List (List Lit) → List Lit → Type 0
@@ -90,13 +100,16 @@ pub record IsSpentTest (normal : Normal) (test : SpentTest) : Type 0 where
   pub over : All (All (IsOver (greatest_body_var normal))) test.units
   pub worth : MatchOption test.inside (AreUnitsOfTest normal test) (AreUnitsWithin normal test)
 
--- each unit of the test itself follows by unit propagation from base clauses, local clauses and the units before it
+-- each unit of the test itself follows by unit propagation from base clauses, local clauses and the
+-- units before it
 abbrev pub IsGrounded : Normal → SpentTest → Type 0
-IsGrounded normal test = IfNone test.inside (AreRefutedWith (IsLocal normal) (base_clauses normal) test.units)
+IsGrounded normal test =
+    IfNone test.inside (AreRefutedWith (IsLocal normal) (base_clauses normal) test.units)
 
 -- of two tests themselves, the units of one are worth counting beside those of the other
 abbrev pub AreApart : Normal → SpentTest → SpentTest → Type 0
 AreApart normal one two =
     IfNone one.inside
     (IfNone two.inside
-    (AreUnits (base_clauses normal ++ one.units) two.units ⊎ AreUnits (base_clauses normal ++ two.units) one.units))
+    (AreUnits (base_clauses normal ++ one.units) two.units
+    ⊎ AreUnits (base_clauses normal ++ two.units) one.units))

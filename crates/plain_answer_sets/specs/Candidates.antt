@@ -17,7 +17,8 @@ pub record IsCutFrom (trial : List Bool) (at : ℕ) (part : List Bool) : Type 0 
   pub inside : IsPart part trial
 
 -- `part` comes from `trial` so, isn't `by`, and keeps the rules of the reduct by `by`
-pub record IsSmallerKeeper (by : List Bool) (rules : List Rule) (trial : List Bool) (at : ℕ) (part : List Bool) : Type 0 where
+pub record IsSmallerKeeper (by : List Bool) (rules : List Rule) (trial : List Bool) (at : ℕ)
+    (part : List Bool) : Type 0 where
   pub cut : IsCutFrom trial at part
   pub other : part ≢ by
   pub keeps : KeepsAll by part rules

@@ -1,6 +1,7 @@
 // The parts of the definition of an answer set, one function each.
 ghost use Rattle.std.specs.Prelude.{◌≡◌, ◌+◌, ◌↔◌, length, All, Some, IsTrue, IfOk, slice_get};
-ghost use Rattle.ground_program.specs.Meaning.{IsIn, KeepsAll, MeetsCompute, IsSetOver, IsAnswerSet};
+ghost use Rattle.ground_program.specs.Meaning.{IsIn, KeepsAll, MeetsCompute, IsSetOver};
+ghost use Rattle.ground_program.specs.Meaning.{IsAnswerSet};
 ghost use Rattle.plain_answer_sets.specs.Candidates.{IsReductModel};
 
 use crate::subsets::{keeps_all, some_smaller_keeps};

@@ -6,7 +6,8 @@ use Rattle.normal_program.specs.declared.normal.Normal.{Normal}
 use Rattle.normal_program.specs.Normal.{extension, IsAnswerSetN}
 use Rattle.normal_program.specs.Clauses.{AreChosen}
 
--- the clause holds by `values` with each choice, judged by `base`, of the selectors with these disjunctions
+-- the clause holds by `values` with each choice, judged by `base`, of the selectors with these
+-- disjunctions
 abbrev pub HoldsWithChoices : List Bool → List (List Lit) → List Lit → List Bool → Type 0
 HoldsWithChoices base disjunctions clause values =
     (chosen : List Bool) → AreChosen base disjunctions chosen → HoldsIn (values ++ chosen) clause

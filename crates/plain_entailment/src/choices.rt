@@ -1,4 +1,5 @@
-// Goes over the choices of selectors. Each selector may be off, or on where its disjunction is true.
+// Goes over the choices of selectors. Each selector may be off, or on where its disjunction is
+// true.
 ghost use Rattle.std.specs.Prelude.{◌↔◌, IsTrue, IfOk};
 ghost use Rattle.plain_entailment.specs.Search.{HoldsWithChoices};
 
@@ -16,7 +17,8 @@ pub fn holds_with_choices(
     clause: &[Lit],
     values: &Set,
 ) -> Result<bool, NoMemory>
-    ensures { IfOk result (λ yes. IsTrue yes ↔ HoldsWithChoices base.now disjunctions.now clause.now values.now) }
+    ensures { IfOk result
+        (λ yes. IsTrue yes ↔ HoldsWithChoices base.now disjunctions.now clause.now values.now) }
 {
     match disjunctions {
         [] => Ok(holds(values.as_slice(), clause)),

@@ -47,7 +47,8 @@ fn holds_from(
 ) -> Result<bool, NoMemory>
     requires same { SameAnswerSets normal.now program.now }
     requires short { length start.now ≤ normal.now.atoms + 1 }
-    ensures { IfOk result (λ yes. IsTrue yes ↔ HoldsFrom normal.now disjunctions.now clause.now start.now) }
+    ensures { IfOk result
+        (λ yes. IsTrue yes ↔ HoldsFrom normal.now disjunctions.now clause.now start.now) }
 {
     if start.len() as u64 == u64::from(normal.atoms) + 1 {
         return holds_for(alloc, program, normal, disjunctions, clause, start);
@@ -70,7 +71,8 @@ fn holds_for(
     set: &Set,
 ) -> Result<bool, NoMemory>
     requires { SameAnswerSets normal.now program.now }
-    ensures { IfOk result (λ yes. IsTrue yes ↔ HoldsForSet normal.now disjunctions.now clause.now set.now) }
+    ensures { IfOk result
+        (λ yes. IsTrue yes ↔ HoldsForSet normal.now disjunctions.now clause.now set.now) }
 {
     if !is_answer_set(alloc, program, set)? {
         return Ok(true);

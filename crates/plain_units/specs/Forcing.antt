@@ -24,4 +24,5 @@ HasVariable lits lit = Any (λ other. variable other ≡ variable lit) lits
 -- from the negations of all literals of the clause but one, propagation refutes or gives that one
 abbrev pub IsAbsorbedAt : List (List Lit) → List Lit → Lit → Type 0
 IsAbsorbedAt clauses clause lit =
-    Refutes clauses (negations (others clause lit)) ⊎ InClosure clauses (negations (others clause lit)) lit
+    Refutes clauses (negations (others clause lit))
+    ⊎ InClosure clauses (negations (others clause lit)) lit

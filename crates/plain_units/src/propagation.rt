@@ -1,5 +1,7 @@
-// Unit propagation: one literal after the other that some clause forces, until no new one is forced.
-ghost use Rattle.std.specs.Prelude.{◌≢◌, ◌↔◌, ◌⊎◌, All, Any, Contains, IsTrue, IfNone, IfOk, IfSome};
+// Unit propagation: one literal after the other that some clause forces, until no new one is
+// forced.
+ghost use Rattle.std.specs.Prelude.{◌≢◌, ◌↔◌, ◌⊎◌, All, Any, Contains, IsTrue, IfNone, IfOk};
+ghost use Rattle.std.specs.Prelude.{IfSome};
 ghost use Rattle.clause_store.specs.Clause.{negation};
 ghost use Rattle.clause_store.specs.Entailment.{InClosure, IsClosed, IsForcedBy, Refutes};
 ghost use Rattle.plain_units.specs.Forcing.{IsClosedUnder, IsFalseBy, IsNewlyForced};
@@ -9,7 +11,8 @@ use std::alloc::Global;
 
 /// The literals that unit propagation by the clauses gives from `lits`, with `lits` themselves.
 pub fn closure(alloc: Global, clauses: &[Clause], lits: &[Lit]) -> Result<Clause, NoMemory>
-    ensures { IfOk result (λ known. (lit : Lit) → Contains known lit ↔ InClosure clauses.now lits.now lit) }
+    ensures { IfOk result
+        (λ known. (lit : Lit) → Contains known lit ↔ InClosure clauses.now lits.now lit) }
 {
     let mut known = Clause::from_slice(alloc, lits)?;
     'additions: while let Some(lit) = newly_forced(clauses, known.as_slice()) {
@@ -58,7 +61,8 @@ fn is_false(known: &[Lit], clause: &[Lit]) -> bool
 
 /// A literal that isn't known and that some clause forces.
 fn newly_forced(clauses: &[Clause], known: &[Lit]) -> Option<Lit>
-    ensures some { IfSome result (λ lit. Any (λ clause. IsNewlyForced known.now clause lit) clauses.now) }
+    ensures some { IfSome result
+        (λ lit. Any (λ clause. IsNewlyForced known.now clause lit) clauses.now) }
     ensures none { IfNone result (IsClosed clauses.now known.now) }
 {
     for clause in clauses {
@@ -84,7 +88,8 @@ fn forced_in(clause: &[Lit], known: &[Lit]) -> Option<Lit>
 
 /// Whether all literals of the clause but `lit` are false.
 fn others_are_false(clause: &[Lit], known: &[Lit], lit: Lit) -> bool
-    ensures { IsTrue result ↔ All (λ other. other ≢ lit → Contains known.now (negation other)) clause.now }
+    ensures { IsTrue result ↔ All (λ other. other ≢ lit → Contains known.now (negation other))
+        clause.now }
 {
     clause
         .iter()

@@ -1,5 +1,6 @@
 -- One pass over the attached clauses, a clause at a time.
-use Rattle.std.proofs.Common.{◌≡◌, ℕ, ◌+◌, ◌<◌, ◌≤◌, List, [], ◌∷◌, ◌++◌, Option, Some, None, length, take, get_or, refl, sym, ap, ◌∙◌, subst, arith, length-append}
+use Rattle.std.proofs.Common.{◌≡◌, ℕ, ◌+◌, ◌<◌, ◌≤◌, List, [], ◌∷◌, ◌++◌, Option, Some, None}
+use Rattle.std.proofs.Common.{length, take, get_or, refl, sym, ap, ◌∙◌, subst, arith, length-append}
 use Rattle.std.specs.Prelude.{All, IfNone, slice_get}
 use Rattle.std.proofs.lemmas.List.{take_all}
 use Rattle.std.proofs.lemmas.List.Elements.{All-more}
@@ -17,38 +18,61 @@ abbrev pub IsPassed : List (List Lit) → List Attached → Assigned → ℕ →
 IsPassed clauses entries old count now =
     Extends old now
     × IsTrailOf now.steps clauses
-    × (length now.steps ≡ length old.steps → All (λ it. IsQuietOn now.steps it.lits) (take count entries))
+    × (length now.steps ≡ length old.steps
+    → All (λ it. IsQuietOn now.steps it.lits) (take count entries))
 
 -- the next clause is quiet
-pub passes_quiet : (clauses : List (List Lit)) (entries : List Attached) (old now : Assigned) (i : ℕ) (it : Attached) (at : ClauseRef) (lits : List Lit)
-    → AreNamed clauses entries → i < length entries → it ≡ get_or entries i it → at ≡ it.at → slice_get clauses at.0 ≡ Some lits → IsQuietOn now.steps lits
+pub passes_quiet : (clauses : List (List Lit)) (entries : List Attached) (old now : Assigned)
+    (i : ℕ) (it : Attached) (at : ClauseRef) (lits : List Lit)
+    → AreNamed clauses entries → i < length entries → it ≡ get_or entries i it → at ≡ it.at
+    → slice_get clauses at.0 ≡ Some lits → IsQuietOn now.steps lits
     → IsPassed clauses entries old i now → IsPassed clauses entries old (i + 1) now
-passes_quiet clauses entries old now i it at lits named within is same here quiet passed =
-    (passed.0, passed.1, λ equal. All-more (λ e. IsQuietOn now.steps e.lits) entries i it within (passed.2 equal) quiet_there)
+passes_quiet clauses entries old now i it at lits named within is same here quiet passed = (
+  passed.0,
+  passed.1,
+  λ equal. All-more (λ e. IsQuietOn now.steps e.lits) entries i it within
+      (passed.2 equal) quiet_there,
+)
   where
     there : slice_get clauses (get_or entries i it).at.0 ≡ Some lits
-    there = ap (λ e. slice_get clauses e.at.0) (sym is) ∙ ap (λ a. slice_get clauses a.0) (sym same) ∙ here
+    there =
+        ap (λ e. slice_get clauses e.at.0) (sym is) ∙ ap (λ a. slice_get clauses a.0) (sym same)
+        ∙ here
 
     quiet_there : IsQuietOn now.steps (get_or entries i it).lits
-    quiet_there = subst (IsQuietOn now.steps) (same_Some lits (get_or entries i it).lits (sym there ∙ named i it within)) quiet
+    quiet_there =
+        subst (IsQuietOn now.steps)
+        (same_Some lits (get_or entries i it).lits (sym there ∙ named i it within)) quiet
 
 -- the next clause forced a literal
-pub passes_forced : (clauses : List (List Lit)) (entries : List Attached) (old now : Assigned) (count : ℕ) (lit : Lit) (why : ClauseRef) (later : Assigned)
-    → later ≡ record now { steps = now.steps ++ record { lit = lit; reason = Some why; level = present_level now.steps } ∷ [] }
+pub passes_forced : (clauses : List (List Lit)) (entries : List Attached) (old now : Assigned)
+    (count : ℕ) (lit : Lit) (why : ClauseRef) (later : Assigned)
+    → later
+    ≡ record now {
+      steps =
+          now.steps
+          ++ record { lit = lit; reason = Some why; level = present_level now.steps }
+          ∷ [];
+    }
     → IsTrailOf later.steps clauses → Extends old now → IsPassed clauses entries old count later
-passes_forced clauses entries old now count lit why later is of extends =
-    (subst (Extends old) (sym is) (extends_push old now step extends refl refl), of, λ equal. absurd (omega (arith, longer, equal)))
+passes_forced clauses entries old now count lit why later is of extends = (
+  subst (Extends old) (sym is) (extends_push old now step extends refl refl),
+  of,
+  λ equal. absurd (omega (arith, longer, equal)),
+)
   where
     step : Step
     step = record { lit = lit; reason = Some why; level = present_level now.steps }
 
     longer : length old.steps + 1 ≤ length later.steps
     longer =
-        let one : length later.steps ≡ length (now.steps ++ step ∷ []) = ap (λ trail. length trail.steps) is in
+        let one : length later.steps ≡ length (now.steps ++ step ∷ []) =
+        ap (λ trail. length trail.steps) is in
         omega (arith, one, length-append now.steps (step ∷ []), extends_longer old now extends)
 
 -- all clauses were visited
-pub passed_all : (clauses : List (List Lit)) (entries : List Attached) (old now : Assigned) (count : ℕ) → length entries ≤ count → IsPassed clauses entries old count now
+pub passed_all : (clauses : List (List Lit)) (entries : List Attached) (old now : Assigned)
+    (count : ℕ) → length entries ≤ count → IsPassed clauses entries old count now
     → length now.steps ≡ length old.steps → All (λ it. IsQuietOn now.steps it.lits) entries
 passed_all clauses entries old now count all passed equal =
     subst (All (λ it. IsQuietOn now.steps it.lits)) (take_all count entries all) (passed.2 equal)

@@ -1,5 +1,6 @@
 -- A total trail that is a fixpoint meets the clauses.
-use Rattle.std.proofs.Common.{◌≡◌, ◌≢◌, Bool, true, false, cond, eqb, get_or, Option, Some, None, refl, sym, ◌∙◌, inl, inr}
+use Rattle.std.proofs.Common.{◌≡◌, ◌≢◌, Bool, true, false, cond, eqb, get_or, Option, Some, None}
+use Rattle.std.proofs.Common.{refl, sym, ◌∙◌, inl, inr}
 use Rattle.std.specs.Prelude.{IsSome}
 use Rattle.std.proofs.lemmas.Bool.{false≢true}
 use Rattle.clause_store.specs.declared.literal.Lit.{Lit}
@@ -13,8 +14,10 @@ use Rattle.clause_store.proofs.TrailLemmas.{total_means}
 use Rattle.propagator.specs.Laws.{TotalFixpointMeets}
 
 -- what isn't true on a total trail is false
-total_false : (trail : Assigned) (lit : Lit) → IsTotal trail → IsOver trail.vars lit → value_of trail.steps lit ≢ Yes → IsFalse trail.steps lit
-total_false trail lit total over not_true = go (step_of trail.steps (variable lit)) (total (variable lit) over.first over.last) not_true
+total_false : (trail : Assigned) (lit : Lit) → IsTotal trail → IsOver trail.vars lit
+    → value_of trail.steps lit ≢ Yes → IsFalse trail.steps lit
+total_false trail lit total over not_true =
+    go (step_of trail.steps (variable lit)) (total (variable lit) over.first over.last) not_true
   where
     by : (b : Bool) → cond b Yes No ≢ Yes → cond b Yes No ≡ No
     by true not_yes = absurd (not_yes refl)
@@ -34,5 +37,8 @@ total_fixpoint_meets trail clauses total over fixpoint k d within =
           (λ at other inside.
           let lit_over = over k d within at other inside in
           total_false trail (get_or (get_or clauses k d) at other) total lit_over
-          (λ is_true. false≢true (sym (none at other inside) ∙ (total_means trail (get_or (get_or clauses k d) at other) total lit_over).1 is_true))))
+          (λ is_true. false≢true
+          (sym (none at other inside)
+          ∙ (total_means trail (get_or (get_or clauses k d) at other) total lit_over).1
+          is_true))))
     ]

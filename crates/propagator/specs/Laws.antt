@@ -1,5 +1,6 @@
 -- Laws of the words of this crate. Each is a clause of a function in src/laws.rt.
-use Rattle.std.specs.Prelude.{◌≡◌, ◌≢◌, ◌<◌, ◌+◌, ◌++◌, List, [], ◌∷◌, length, take, All, slice_get, Some}
+use Rattle.std.specs.Prelude.{◌≡◌, ◌≢◌, ◌<◌, ◌+◌, ◌++◌, List, [], ◌∷◌, length, take, All, slice_get}
+use Rattle.std.specs.Prelude.{Some}
 use Rattle.clause_store.specs.declared.literal.Lit.{Lit}
 use Rattle.clause_store.specs.declared.literal.ClauseRef.{ClauseRef}
 use Rattle.clause_store.specs.declared.literal.Value.TheVariants.{Yes}
@@ -14,42 +15,53 @@ use Rattle.propagator.specs.Fixpoint.{Extends, IsFixpoint}
 -- the store, the trail and the watches stay ready when assignments come last
 abbrev pub ReadyWithMore : Type 0
 ReadyWithMore =
-    (clauses : List (List Lit)) (old new : Assigned) (watches : Watched) (added : List Step) → IsReady clauses old watches
-    → new ≡ record old { steps = old.steps ++ added } → IsTrailOf new.steps clauses → IsReady clauses new watches
+    (clauses : List (List Lit)) (old new : Assigned) (watches : Watched) (added : List Step)
+    → IsReady clauses old watches
+    → new ≡ record old { steps = old.steps ++ added } → IsTrailOf new.steps clauses
+    → IsReady clauses new watches
 
 -- and when a clause is put into the store and attached
 abbrev pub ReadyWithClause : Type 0
 ReadyWithClause =
-    (clauses more : List (List Lit)) (clause : List Lit) (trail : Assigned) (old new : Watched) (at : ClauseRef) → IsReady clauses trail old
-    → All (IsOver trail.vars) clause → at.0 ≡ length clauses → more ≡ clauses ++ clause ∷ [] → IsAttached more at old new
+    (clauses more : List (List Lit)) (clause : List Lit) (trail : Assigned) (old new : Watched)
+    (at : ClauseRef) → IsReady clauses trail old
+    → All (IsOver trail.vars) clause → at.0 ≡ length clauses → more ≡ clauses ++ clause ∷ []
+    → IsAttached more at old new
     → IsReady more trail new
 
 -- and when a clause of the store is attached once more
 abbrev pub ReadyWithAgain : Type 0
 ReadyWithAgain =
-    (clauses : List (List Lit)) (trail : Assigned) (old new : Watched) (at : ClauseRef) → IsReady clauses trail old
+    (clauses : List (List Lit)) (trail : Assigned) (old new : Watched) (at : ClauseRef)
+    → IsReady clauses trail old
     → IsAttached clauses at old new → IsReady clauses trail new
 
 -- where the first clauses of a store are attached and the next one is, that many and one are
 abbrev pub ReadyWithNext : Type 0
 ReadyWithNext =
-    (clauses : List (List Lit)) (trail : Assigned) (old new : Watched) (at : ClauseRef) → AreOver trail.vars clauses
+    (clauses : List (List Lit)) (trail : Assigned) (old new : Watched) (at : ClauseRef)
+    → AreOver trail.vars clauses
     → at.0 < length clauses → IsReady (take at.0 clauses) trail old → IsAttached clauses at old new
     → IsReady (take (at.0 + 1) clauses) trail new
 
 -- and when the trail goes back and the watches with it
 abbrev pub ReadyAfterRewind : Type 0
 ReadyAfterRewind =
-    (clauses : List (List Lit)) (old new : Assigned) (watches rewound : Watched) → IsReady clauses old watches
-    → new.vars ≡ old.vars → IsTrailOf new.steps clauses → rewound ≡ record watches { followed = rewound.followed }
+    (clauses : List (List Lit)) (old new : Assigned) (watches rewound : Watched)
+    → IsReady clauses old watches
+    → new.vars ≡ old.vars → IsTrailOf new.steps clauses
+    → rewound ≡ record watches { followed = rewound.followed }
     → AreOn new.steps rewound.followed → IsReady clauses new rewound
 
 -- a run of propagation after another is one
 abbrev pub ExtendingGoesOn : Type 0
-ExtendingGoesOn = (first second third : Assigned) → Extends first second → Extends second third → Extends first third
+ExtendingGoesOn =
+    (first second third : Assigned) → Extends first second → Extends second third
+    → Extends first third
 
 -- the clause of a reason: its literal is true and all others are false
-pub record HoldsAsReason (clauses : List (List Lit)) (steps : List Step) (step : Step) (why : ClauseRef) : Type 0 where
+pub record HoldsAsReason (clauses : List (List Lit)) (steps : List Step) (step : Step)
+    (why : ClauseRef) : Type 0 where
   pub clause : List Lit
   pub named : slice_get clauses why.0 ≡ Some clause
   pub yes : value_of steps step.lit ≡ Yes
@@ -59,24 +71,30 @@ pub record HoldsAsReason (clauses : List (List Lit)) (steps : List Step) (step :
 abbrev pub ReasonsHold : Type 0
 ReasonsHold =
     (trail : Assigned) (clauses : List (List Lit)) → IsTrail trail → IsTrailOf trail.steps clauses
-    → All (λ step. (why : ClauseRef) → step.reason ≡ Some why → HoldsAsReason clauses trail.steps step why) trail.steps
+    → All
+    (λ step. (why : ClauseRef) → step.reason ≡ Some why
+    → HoldsAsReason clauses trail.steps step why) trail.steps
 
 -- what unit propagation draws from literals that are true at a fixpoint is true there
 abbrev pub FixpointHasClosure : Type 0
 FixpointHasClosure =
-    (trail : Assigned) (clauses : List (List Lit)) (lits : List Lit) (lit : Lit) → IsTrail trail → IsFixpoint clauses trail.steps
-    → All (λ it. value_of trail.steps it ≡ Yes) lits → InClosure clauses lits lit → value_of trail.steps lit ≡ Yes
+    (trail : Assigned) (clauses : List (List Lit)) (lits : List Lit) (lit : Lit) → IsTrail trail
+    → IsFixpoint clauses trail.steps
+    → All (λ it. value_of trail.steps it ≡ Yes) lits → InClosure clauses lits lit
+    → value_of trail.steps lit ≡ Yes
 
 -- it refutes no such literals
 abbrev pub FixpointRefutesNone : Type 0
 FixpointRefutesNone =
-    (trail : Assigned) (clauses : List (List Lit)) (lits : List Lit) → IsTrail trail → IsFixpoint clauses trail.steps
+    (trail : Assigned) (clauses : List (List Lit)) (lits : List Lit) → IsTrail trail
+    → IsFixpoint clauses trail.steps
     → All (λ it. value_of trail.steps it ≡ Yes) lits → ¬ Refutes clauses lits
 
 -- so a clause that is a unit at a fixpoint of other clauses isn't absorbed by them
 abbrev pub FixpointAbsorbsNoUnit : Type 0
 FixpointAbsorbsNoUnit =
-    (trail : Assigned) (clauses : List (List Lit)) (clause : List Lit) (lit : Lit) → IsTrail trail → IsFixpoint clauses trail.steps
+    (trail : Assigned) (clauses : List (List Lit)) (clause : List Lit) (lit : Lit) → IsTrail trail
+    → IsFixpoint clauses trail.steps
     → ForcesOn trail.steps clause lit → ¬ Absorbs clauses clause
 
 -- the assignment of a total trail at a fixpoint meets the clauses

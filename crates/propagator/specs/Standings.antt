@@ -6,7 +6,8 @@ use Rattle.clause_store.specs.declared.step.Step.{Step}
 use Rattle.clause_store.specs.Trail.{value_of}
 use Rattle.clause_store.specs.Standing.{IsFalseOn, ForcesOn}
 use Rattle.propagator.specs.declared.standing.Standing.{Standing}
-use Rattle.propagator.specs.declared.standing.Standing.TheVariants.{Satisfied, Open, Unit as UnitLit, False}
+use Rattle.propagator.specs.declared.standing.Standing.TheVariants.{Satisfied, Open}
+use Rattle.propagator.specs.declared.standing.Standing.TheVariants.{Unit as UnitLit, False}
 
 -- no literal is true
 abbrev pub HasNoneTrue : List Step → List Lit → Type 0

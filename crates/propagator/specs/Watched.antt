@@ -1,4 +1,5 @@
--- What contracts see of watches: the clauses that were attached, and the assignments that are followed.
+-- What contracts see of watches: the clauses that were attached, and the assignments that are
+-- followed.
 use Rattle.std.specs.Prelude.{◌≡◌, ◌<◌, ℕ, List, [], ◌∷◌, ◌++◌, length, slice_get, All, Any, Some}
 use Rattle.clause_store.specs.declared.literal.Lit.{Lit}
 use Rattle.clause_store.specs.declared.literal.ClauseRef.{ClauseRef}
@@ -29,7 +30,8 @@ pub record AreAttached (attached : List Attached) (clauses : List (List Lit)) : 
   pub complete : (at : ℕ) → at < length clauses → Any (λ it. it.at.0 ≡ at) attached
 
 -- the clause of that number was put last, with its literals, and nothing else changed
-pub record IsAttached (clauses : List (List Lit)) (at : ClauseRef) (old new : Watched) : Type 0 where
+pub record IsAttached (clauses : List (List Lit)) (at : ClauseRef) (old new : Watched) :
+    Type 0 where
   pub clause : List Lit
   pub named : slice_get clauses at.0 ≡ Some clause
   pub last : new ≡ record old { clauses = old.clauses ++ record { at = at; lits = clause } ∷ [] }
@@ -38,8 +40,10 @@ pub record IsAttached (clauses : List (List Lit)) (at : ClauseRef) (old new : Wa
 abbrev pub AreQuietOn : List Step → List Attached → Type 0
 AreQuietOn steps attached = All (λ it. IsQuietOn steps it.lits) attached
 
--- what propagation asks of a store, a trail and watches, and leaves: the watches are just of the store's
--- clauses and over the trail's variables, follow only assignments of the trail, and the trail is of the store
+-- what propagation asks of a store, a trail and watches, and leaves: the watches are just of the
+-- store's
+-- clauses and over the trail's variables, follow only assignments of the trail, and the trail is of
+-- the store
 pub record IsReady (clauses : List (List Lit)) (trail : Assigned) (watches : Watched) : Type 0 where
   pub attached : AreAttached watches.clauses clauses
   pub same_vars : watches.vars ≡ trail.vars

@@ -1,6 +1,8 @@
-// The laws of readiness, of propagation, of reasons and of the fixpoint, for the crates above. They do
+// The laws of readiness, of propagation, of reasons and of the fixpoint, for the crates above. They
+// do
 // nothing when they run.
-ghost use Rattle.propagator.specs.Laws.{ReadyWithMore, ReadyWithClause, ReadyWithAgain, ReadyWithNext, ReadyAfterRewind};
+ghost use Rattle.propagator.specs.Laws.{ReadyWithMore, ReadyWithClause, ReadyWithAgain};
+ghost use Rattle.propagator.specs.Laws.{ReadyWithNext, ReadyAfterRewind};
 ghost use Rattle.propagator.specs.Laws.{ExtendingGoesOn, ReasonsHold};
 ghost use Rattle.propagator.specs.Laws.{FixpointHasClosure, FixpointRefutesNone};
 ghost use Rattle.propagator.specs.Laws.{FixpointAbsorbsNoUnit, TotalFixpointMeets};

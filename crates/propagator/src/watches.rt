@@ -1,4 +1,5 @@
-// The clauses that propagation goes over. As it goes over all of them each time, no assignment has to
+// The clauses that propagation goes over. As it goes over all of them each time, no assignment has
+// to
 // be followed between two calls.
 ghost use Rattle.std.specs.Prelude.{◌≡◌, ◌<◌, ◌^◌, [], length, IfOk, OnErr};
 ghost use Rattle.clause_store.specs.Clause.{AreOver};
@@ -27,7 +28,8 @@ impl Model for Watches {
 }
 
 impl Watches {
-    /// The watches over the variables 1 to `vars`: no clause is attached and no assignment followed.
+    /// The watches over the variables 1 to `vars`: no clause is attached and no assignment
+    /// followed.
     pub fn open(_alloc: Global, vars: u32) -> Result<Watches, NoMemory>
         requires { vars < 2 ^ 31 }
         ensures { IfOk result (λ it. it ≡ record { vars = vars; clauses = []; followed = [] }) }

@@ -1,5 +1,6 @@
 -- The program of one fact, with one name, has one answer set, so its report is legal.
-use Rattle.std.proofs.Common.{◌≡◌, ◌<◌, ℕ, zero, suc, Bool, true, false, List, [], ◌∷◌, length, get_or, refl, arith}
+use Rattle.std.proofs.Common.{◌≡◌, ◌<◌, ℕ, zero, suc, Bool, true, false, List, [], ◌∷◌, length}
+use Rattle.std.proofs.Common.{get_or, refl, arith}
 use Rattle.std.specs.Prelude.{All}
 use Rattle.std.proofs.lemmas.Option.{get_or_from_slice_get}
 use Rattle.ground_program.specs.declared.program.Mode.TheVariants.{Cautious}
@@ -32,7 +33,8 @@ abbrev pub fact_set : List Bool
 fact_set = false ∷ false ∷ true ∷ []
 
 -- a set that has atom 2 alone is that set
-same_set : (set : List Bool) → length set ≡ 3 → ¬ IsIn set 0 → ¬ IsIn set 1 → IsIn set 2 → set ≡ fact_set
+same_set : (set : List Bool) → length set ≡ 3 → ¬ IsIn set 0 → ¬ IsIn set 1 → IsIn set 2
+    → set ≡ fact_set
 same_set [] size none one two = absurd (omega arith)
 same_set (a ∷ []) size none one two = absurd (omega arith)
 same_set (a ∷ b ∷ []) size none one two = absurd (omega arith)
@@ -50,12 +52,14 @@ has_fact by set keeps = keeps (omega arith) 0 0 (omega arith)
 only_one : {X : Type 0} (P : X → Type 0) (x : X) → P x → All P (x ∷ [])
 only_one P x holds = λ k d inside. at_place P x holds k d inside
   where
-    at_place : {X : Type 0} (P : X → Type 0) (x : X) → P x → (k : ℕ) (d : X) → k < 1 → P (get_or (x ∷ []) k d)
+    at_place : {X : Type 0} (P : X → Type 0) (x : X) → P x → (k : ℕ) (d : X) → k < 1
+        → P (get_or (x ∷ []) k d)
     at_place P x holds zero d inside = holds
     at_place P x holds (suc k) d inside = absurd (omega arith)
 
 -- the fact fails in each proper part of the set
-fact_fails : (smaller : List Bool) → IsProperSubset smaller fact_set → SomeFails fact_set smaller (fact ∷ [])
+fact_fails : (smaller : List Bool) → IsProperSubset smaller fact_set
+    → SomeFails fact_set smaller (fact ∷ [])
 fact_fails smaller proper = (
   0,
   fact,
@@ -84,11 +88,13 @@ pub fact_only : IsOnlyAnswerSet one_fact fact_set
 fact_only = record {
   answer_set = fact_answers;
   only = λ other answers. same_set other answers.over.positions
-      (λ in_zero. let first : get_or other 0 false ≡ false = get_or_from_slice_get other 0 false false answers.over.no_atom in cc)
+      (λ in_zero. let first : get_or other 0 false ≡ false =
+      get_or_from_slice_get other 0 false false answers.over.no_atom in cc)
       (answers.compute.must_not 0 0 (omega arith))
       (has_fact other other (answers.keeps 0 fact (omega arith)));
 }
 
 -- so this report is legal
-pub legal_fact : (budget : ℕ) → IsLegalReport one_fact Cautious 0 budget (Answer 1 fact_set ∷ SettledIn 1 0 ∷ Sizes 1 1 ∷ Complete ∷ [])
+pub legal_fact : (budget : ℕ) → IsLegalReport one_fact Cautious 0 budget
+    (Answer 1 fact_set ∷ SettledIn 1 0 ∷ Sizes 1 1 ∷ Complete ∷ [])
 legal_fact budget = legal_one_set one_fact fact_set budget fact_only

@@ -1,5 +1,6 @@
 -- Legal reports grow line by line, and end in a verdict.
-use Rattle.std.proofs.Common.{◌≡◌, ◌⊎◌, ℕ, zero, suc, Bool, List, [], ◌∷◌, ◌++◌, refl, sym, ◌∙◌, ap, subst, inl, inr, arith, append_assoc, length-append}
+use Rattle.std.proofs.Common.{◌≡◌, ◌⊎◌, ℕ, zero, suc, Bool, List, [], ◌∷◌, ◌++◌, refl, sym, ◌∙◌, ap}
+use Rattle.std.proofs.Common.{subst, inl, inr, arith, append_assoc, length-append}
 use Rattle.std.proofs.Math.ListN.{get_or-append}
 use Rattle.std.specs.Prelude.{Any}
 use Rattle.ground_program.specs.declared.program.Mode.{Mode}
@@ -7,7 +8,8 @@ use Rattle.ground_program.specs.declared.program.Program.{Program}
 use Rattle.ground_program.specs.Meaning.{IsAnswerSet}
 use Rattle.report.specs.declared.lines.Line.{Line}
 use Rattle.report.specs.declared.lines.Line.TheVariants.{Complete, Partial, Incoherent, NoMemory}
-use Rattle.report.specs.Legal.{IsLegalLine, IsLegalSoFar, IsLegalReport, IsIncoherent, IsComplete, IsPartial, KeepsInside, EachWatched}
+use Rattle.report.specs.Legal.{IsLegalLine, IsLegalSoFar, IsLegalReport, IsIncoherent, IsComplete}
+use Rattle.report.specs.Legal.{IsPartial, KeepsInside, EachWatched}
 
 -- some element of a list is one of a longer list
 pub Any-before : {X : Type 0} (P : X → Type 0) (xs ys : List X) → Any P xs → Any P (xs ++ ys)
@@ -15,7 +17,8 @@ Any-before P xs ys (k, x, inside, is, holds) =
     (k, x, omega (arith, length-append xs ys), get_or-append xs ys x k inside ∙ is, holds)
 
 -- an element behind a list is the last or stands in the list
-pub Any-last : {X : Type 0} (P : X → Type 0) (xs : List X) (y : X) → Any P (xs ++ y ∷ []) → Any P xs ⊎ P y
+pub Any-last : {X : Type 0} (P : X → Type 0) (xs : List X) (y : X) → Any P (xs ++ y ∷ [])
+    → Any P xs ⊎ P y
 Any-last P [] y (zero, x, inside, is, holds) = inr (subst P (sym is) holds)
 Any-last P [] y (suc k, x, inside, is, holds) = absurd (omega arith)
 Any-last P (z ∷ xs) y (zero, x, inside, is, holds) = inl (zero, x, omega arith, is, holds)
@@ -25,12 +28,17 @@ Any-last P (z ∷ xs) y (suc k, x, inside, is, holds) =
       | inr last ↦ inr last
     ]
 
--- where a list with one line more is cut before a line: that line is the last, or stands in the list
-cut_of : (lines before after : List Line) (line item : Line) → lines ++ line ∷ [] ≡ before ++ item ∷ after → ((before ≡ lines) × (item ≡ line)) ⊎ ((rest : List Line) × (lines ≡ before ++ item ∷ rest))
+-- where a list with one line more is cut before a line: that line is the last, or stands in the
+-- list
+cut_of : (lines before after : List Line) (line item : Line)
+    → lines ++ line ∷ [] ≡ before ++ item ∷ after
+    → ((before ≡ lines) × (item ≡ line))
+    ⊎ ((rest : List Line) × (lines ≡ before ++ item ∷ rest))
 cut_of [] [] after line item e = inl (refl, cc)
 cut_of [] (b ∷ []) after line item e = absurd (cc)
 cut_of [] (b ∷ c ∷ before) after line item e = absurd (cc)
-cut_of (l ∷ lines) [] after line item e = let first : l ≡ item = cc in inr (lines, ap (λ (h : Line). h ∷ lines) first)
+cut_of (l ∷ lines) [] after line item e = let first : l ≡ item = cc in
+    inr (lines, ap (λ (h : Line). h ∷ lines) first)
 cut_of (l ∷ lines) (b ∷ before) after line item e =
     let first : l ≡ b = cc in
     let tail : lines ++ line ∷ [] ≡ before ++ item ∷ after = cc in
@@ -50,7 +58,9 @@ module _ (program : Program) (mode : Mode) (watch : ℕ) where
   so_far_none = record { each = λ before after line e. absurd (no_cut before after line e) }
 
   -- a line that may stand behind these gives a longer beginning
-  pub so_far_then : (lines : List Line) (line : Line) → IsLegalSoFar program mode watch lines → IsLegalLine program mode watch lines line → IsLegalSoFar program mode watch (lines ++ line ∷ [])
+  pub so_far_then : (lines : List Line) (line : Line) → IsLegalSoFar program mode watch lines
+      → IsLegalLine program mode watch lines line
+      → IsLegalSoFar program mode watch (lines ++ line ∷ [])
   so_far_then lines line so_far legal = record {
     each = λ before after item e.
         elim (cut_of lines before after line item e) [
@@ -60,15 +70,19 @@ module _ (program : Program) (mode : Mode) (watch : ℕ) where
   }
 
   -- a beginning of a beginning is one
-  pub so_far_front : (front rest : List Line) → IsLegalSoFar program mode watch (front ++ rest) → IsLegalSoFar program mode watch front
+  pub so_far_front : (front rest : List Line) → IsLegalSoFar program mode watch (front ++ rest)
+      → IsLegalSoFar program mode watch front
   so_far_front front rest so_far = record {
     each = λ before after item e.
-        so_far.each before (after ++ rest) item (ap (λ (xs : List Line). xs ++ rest) e ∙ append_assoc before (item ∷ after) rest);
+        so_far.each before (after ++ rest) item
+        (ap (λ (xs : List Line). xs ++ rest) e ∙ append_assoc before (item ∷ after) rest);
   }
 
-  module _ (budget : ℕ) (body : List Line) (so_far : IsLegalSoFar program mode watch body) (inside : KeepsInside watch body) where
+  module _ (budget : ℕ) (body : List Line) (so_far : IsLegalSoFar program mode watch body)
+      (inside : KeepsInside watch body) where
     -- where every candidate is settled, COMPLETE makes a report
-    pub legal_complete : IsComplete program watch body → IsLegalReport program mode watch budget (body ++ Complete ∷ [])
+    pub legal_complete : IsComplete program watch body
+        → IsLegalReport program mode watch budget (body ++ Complete ∷ [])
     legal_complete ended = record {
       body = body;
       tests = [];
@@ -80,7 +94,8 @@ module _ (program : Program) (mode : Mode) (watch : ℕ) where
     }
 
     -- where each test that is left was spent, its lines and PARTIAL make a report
-    pub legal_partial : (tests : List Line) → IsPartial program watch budget body tests → IsLegalReport program mode watch budget (body ++ (tests ++ Partial ∷ []))
+    pub legal_partial : (tests : List Line) → IsPartial program watch budget body tests
+        → IsLegalReport program mode watch budget (body ++ (tests ++ Partial ∷ []))
     legal_partial tests ended = record {
       body = body;
       tests = tests;
@@ -92,7 +107,8 @@ module _ (program : Program) (mode : Mode) (watch : ℕ) where
     }
 
     -- where there is no answer set, INCOHERENT makes a report
-    pub legal_incoherent : IsIncoherent program watch body → IsLegalReport program mode watch budget (body ++ Incoherent ∷ [])
+    pub legal_incoherent : IsIncoherent program watch body
+        → IsLegalReport program mode watch budget (body ++ Incoherent ∷ [])
     legal_incoherent ended = record {
       body = body;
       tests = [];
@@ -123,7 +139,9 @@ pub watched_unwatched : (lines : List Line) → EachWatched 0 lines
 watched_unwatched lines = λ watcher known. absurd (omega (arith, known.first, known.last))
 
 -- a program with no answer set has a report at once, where nobody watches
-pub legal_incoherent_at_once : (program : Program) (mode : Mode) (budget : ℕ) → ((set : List Bool) → ¬ IsAnswerSet program set) → IsLegalReport program mode 0 budget (Incoherent ∷ [])
+pub legal_incoherent_at_once : (program : Program) (mode : Mode) (budget : ℕ)
+    → ((set : List Bool) → ¬ IsAnswerSet program set)
+    → IsLegalReport program mode 0 budget (Incoherent ∷ [])
 legal_incoherent_at_once program mode budget none =
     legal_incoherent program mode 0 budget [] (so_far_none program mode 0) (inside_unwatched [])
     (record { none = none; watched = watched_unwatched [] })

@@ -1,5 +1,8 @@
 -- Writing fields one after another.
-use Rattle.std.proofs.Common.{◌≡◌, ◌<◌, ◌+◌, ℕ, Bool, true, false, List, [], ◌∷◌, ◌++◌, Option, Ok, length, take, drop, get_or, refl, sym, ◌∙◌, ap, arith, append-nil, append_assoc, decimal, take-suc, take-append-drop, add-one, length-take}
+use Rattle.std.proofs.Common.{◌≡◌, ◌<◌, ◌+◌, ℕ, Bool, true, false, List, [], ◌∷◌, ◌++◌, Option, Ok}
+use Rattle.std.proofs.Common.{length, take, drop, get_or, refl, sym, ◌∙◌, ap, arith, append-nil}
+use Rattle.std.proofs.Common.{append_assoc, decimal, take-suc, take-append-drop, add-one}
+use Rattle.std.proofs.Common.{length-take}
 use Rattle.std.proofs.lemmas.Grind.{flat_map-append}
 use Rattle.std.specs.Prelude.{Some, slice_get, ◌-◌}
 use Rattle.byte_edges.specs.Edges.{Writes}
@@ -8,67 +11,106 @@ use Rattle.ground_program.specs.declared.program.Named.{Named}
 use Rattle.report.specs.Text.{field, fields, positions_from, name_of}
 
 -- all of these bytes were written
-abbrev pub Wrote : {K : Type 0} (written : K → Option (List ℕ)) (faults : K → ℕ) (old new : K) → List ℕ → Type 0
-Wrote written faults old new bytes = Writes {E = WriteFault} written faults old new bytes (Ok (tt {0}))
+abbrev pub Wrote : {K : Type 0} (written : K → Option (List ℕ)) (faults : K → ℕ) (old new : K)
+    → List ℕ → Type 0
+Wrote written faults old new bytes =
+    Writes {E = WriteFault} written faults old new bytes (Ok (tt {0}))
 
 -- one number more is one field more
-pub fields_more : (numbers : List ℕ) (at number : ℕ) → at < length numbers → number ≡ get_or numbers at 0 → fields (take (at + 1) numbers) ≡ fields (take at numbers) ++ field (decimal number)
+pub fields_more : (numbers : List ℕ) (at number : ℕ) → at < length numbers
+    → number ≡ get_or numbers at 0
+    → fields (take (at + 1) numbers) ≡ fields (take at numbers) ++ field (decimal number)
 fields_more numbers at number inside is =
-    rw (add-one, take-suc numbers at 0 inside, ← is, flat_map-append (λ number. field (decimal number)) (take at numbers) (number ∷ []))
+    rw (
+      add-one,
+      take-suc numbers at 0 inside,
+      ← is,
+      flat_map-append (λ number. field (decimal number)) (take at numbers) (number ∷ []),
+    )
     (ap (λ (text : List ℕ). fields (take at numbers) ++ text) (append-nil (field (decimal number))))
 
 -- the field of a number stands between those before and those after it
-pub fields_around : (numbers : List ℕ) (at number : ℕ) → at < length numbers → number ≡ get_or numbers at 0 → fields numbers ≡ fields (take at numbers) ++ field (decimal number) ++ fields (drop (at + 1) numbers)
+pub fields_around : (numbers : List ℕ) (at number : ℕ) → at < length numbers
+    → number ≡ get_or numbers at 0
+    → fields numbers ≡ fields (take at numbers) ++ field (decimal number)
+    ++ fields (drop (at + 1) numbers)
 fields_around numbers at number inside is =
-    let whole : take (at + 1) numbers ++ drop (at + 1) numbers ≡ numbers = take-append-drop (at + 1) numbers in
+    let whole : take (at + 1) numbers ++ drop (at + 1) numbers ≡ numbers =
+    take-append-drop (at + 1) numbers in
     ap fields (sym whole)
-    ∙ flat_map-append (λ number. field (decimal number)) (take (at + 1) numbers) (drop (at + 1) numbers)
-    ∙ ap (λ (text : List ℕ). text ++ fields (drop (at + 1) numbers)) (fields_more numbers at number inside is)
+    ∙ flat_map-append (λ number. field (decimal number)) (take (at + 1) numbers)
+    (drop (at + 1) numbers)
+    ∙ ap (λ (text : List ℕ). text ++ fields (drop (at + 1) numbers))
+    (fields_more numbers at number inside is)
 
 -- the first field stands apart
-pub fields_first : (word : List ℕ) (number : ℕ) (rest : List ℕ) → word ++ fields (number ∷ rest) ≡ word ++ fields (number ∷ []) ++ fields rest
+pub fields_first : (word : List ℕ) (number : ℕ) (rest : List ℕ)
+    → word ++ fields (number ∷ rest) ≡ word ++ fields (number ∷ []) ++ fields rest
 fields_first word number rest =
-    ap (λ (text : List ℕ). word ++ (text ++ fields rest)) (sym (append-nil (field (decimal number))))
+    ap (λ (text : List ℕ). word ++ (text ++ fields rest))
+    (sym (append-nil (field (decimal number))))
     ∙ sym (append_assoc word (fields (number ∷ [])) (fields rest))
 
 -- the name of a candidate is that of its entry
-pub name_at : (names : List Named) (cand : ℕ) (named : Named) (name : List ℕ) → slice_get names (cand - 1) ≡ Some named → name ≡ named.name → name_of names cand ≡ name
+pub name_at : (names : List Named) (cand : ℕ) (named : Named) (name : List ℕ)
+    → slice_get names (cand - 1) ≡ Some named → name ≡ named.name → name_of names cand ≡ name
 name_at names cand named name entry is = rw (entry, is) refl
 
 -- the positions in a list and in one behind it
-positions_append : (at : ℕ) (set more : List Bool) → positions_from at (set ++ more) ≡ positions_from at set ++ positions_from (at + length set) more
-positions_append at [] more = let place : at ≡ at + 0 = omega arith in ap (λ (n : ℕ). positions_from n more) place
+positions_append : (at : ℕ) (set more : List Bool)
+    → positions_from at (set ++ more) ≡ positions_from at set
+    ++ positions_from (at + length set) more
+positions_append at [] more = let place : at ≡ at + 0 = omega arith in
+    ap (λ (n : ℕ). positions_from n more) place
 positions_append at (true ∷ set) more =
     let place : at + 1 + length set ≡ at + length (true ∷ set) = omega arith in
-    ap (λ (ps : List ℕ). at ∷ ps) (positions_append (at + 1) set more ∙ ap (λ (n : ℕ). positions_from (at + 1) set ++ positions_from n more) place)
+    ap (λ (ps : List ℕ). at ∷ ps)
+    (positions_append (at + 1) set more
+    ∙ ap (λ (n : ℕ). positions_from (at + 1) set ++ positions_from n more) place)
 positions_append at (false ∷ set) more =
     let place : at + 1 + length set ≡ at + length (false ∷ set) = omega arith in
-    positions_append (at + 1) set more ∙ ap (λ (n : ℕ). positions_from (at + 1) set ++ positions_from n more) place
+    positions_append (at + 1) set more
+    ∙ ap (λ (n : ℕ). positions_from (at + 1) set ++ positions_from n more) place
 
 -- the positions up to a value
-positions_more : (set : List Bool) (at : ℕ) (d holds : Bool) → at < length set → get_or set at d ≡ holds → positions_from 0 (take (at + 1) set) ≡ positions_from 0 (take at set) ++ positions_from at (holds ∷ [])
+positions_more : (set : List Bool) (at : ℕ) (d holds : Bool) → at < length set
+    → get_or set at d ≡ holds → positions_from 0 (take (at + 1) set)
+    ≡ positions_from 0 (take at set) ++ positions_from at (holds ∷ [])
 positions_more set at d holds inside is =
     let size : 0 + length (take at set) ≡ at = omega (arith, length-take at set) in
     rw (add-one, take-suc set at d inside, is)
-    (positions_append 0 (take at set) (holds ∷ []) ∙ ap (λ (n : ℕ). positions_from 0 (take at set) ++ positions_from n (holds ∷ [])) size)
+    (positions_append 0 (take at set) (holds ∷ [])
+    ∙ ap (λ (n : ℕ). positions_from 0 (take at set) ++ positions_from n (holds ∷ [])) size)
 
 -- the fields of the positions up to a true value
-pub positions_true : (set : List Bool) (at : ℕ) (d : Bool) → at < length set → get_or set at d ≡ true → fields (positions_from 0 (take (at + 1) set)) ≡ fields (positions_from 0 (take at set)) ++ field (decimal at)
+pub positions_true : (set : List Bool) (at : ℕ) (d : Bool) → at < length set
+    → get_or set at d ≡ true → fields (positions_from 0 (take (at + 1) set))
+    ≡ fields (positions_from 0 (take at set)) ++ field (decimal at)
 positions_true set at d inside holds =
     ap fields (positions_more set at d true inside holds)
     ∙ flat_map-append (λ number. field (decimal number)) (positions_from 0 (take at set)) (at ∷ [])
-    ∙ ap (λ (text : List ℕ). fields (positions_from 0 (take at set)) ++ text) (append-nil (field (decimal at)))
+    ∙ ap (λ (text : List ℕ). fields (positions_from 0 (take at set)) ++ text)
+    (append-nil (field (decimal at)))
 
 -- a false value has none
-pub positions_false : (set : List Bool) (at : ℕ) (d : Bool) → at < length set → get_or set at d ≡ false → positions_from 0 (take (at + 1) set) ≡ positions_from 0 (take at set)
+pub positions_false : (set : List Bool) (at : ℕ) (d : Bool) → at < length set
+    → get_or set at d ≡ false → positions_from 0 (take (at + 1) set)
+    ≡ positions_from 0 (take at set)
 positions_false set at d inside holds =
     positions_more set at d false inside holds ∙ append-nil (positions_from 0 (take at set))
 
 -- the position of a true value stands between those before and those after it
-pub positions_around : (set : List Bool) (at : ℕ) (d : Bool) → at < length set → get_or set at d ≡ true → fields (positions_from 0 set) ≡ fields (positions_from 0 (take at set)) ++ field (decimal at) ++ fields (positions_from (0 + length (take (at + 1) set)) (drop (at + 1) set))
+pub positions_around : (set : List Bool) (at : ℕ) (d : Bool) → at < length set
+    → get_or set at d ≡ true → fields (positions_from 0 set)
+    ≡ fields (positions_from 0 (take at set)) ++ field (decimal at)
+    ++ fields (positions_from (0 + length (take (at + 1) set)) (drop (at + 1) set))
 positions_around set at d inside holds =
     let whole : take (at + 1) set ++ drop (at + 1) set ≡ set = take-append-drop (at + 1) set in
     ap (λ (values : List Bool). fields (positions_from 0 values)) (sym whole)
     ∙ ap fields (positions_append 0 (take (at + 1) set) (drop (at + 1) set))
-    ∙ flat_map-append (λ number. field (decimal number)) (positions_from 0 (take (at + 1) set)) (positions_from (0 + length (take (at + 1) set)) (drop (at + 1) set))
-    ∙ ap (λ (text : List ℕ). text ++ fields (positions_from (0 + length (take (at + 1) set)) (drop (at + 1) set))) (positions_true set at d inside holds)
+    ∙ flat_map-append (λ number. field (decimal number)) (positions_from 0 (take (at + 1) set))
+    (positions_from (0 + length (take (at + 1) set)) (drop (at + 1) set))
+    ∙ ap
+    (λ (text : List ℕ). text ++ fields
+    (positions_from (0 + length (take (at + 1) set)) (drop (at + 1) set)))
+    (positions_true set at d inside holds)

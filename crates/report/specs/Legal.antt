@@ -1,6 +1,9 @@
--- Which lists of lines are legal reports on a program: each line is true and says something new, judged by
+-- Which lists of lines are legal reports on a program: each line is true and says something new,
+-- judged by
 -- the lines before it, and a verdict says how far the run came.
-use Rattle.std.specs.Prelude.{◌≡◌, ◌≢◌, ◌≤◌, ◌+◌, ◌-◌, ◌↔◌, ◌⊎◌, ℕ, Bool, true, false, List, [], ◌∷◌, ◌++◌, Option, Some, None, length, take, map, count_by, All, Any, Contains, slice_get, IfSome, ◌==◌, if◌then◌else◌}
+use Rattle.std.specs.Prelude.{◌≡◌, ◌≢◌, ◌≤◌, ◌+◌, ◌-◌, ◌↔◌, ◌⊎◌, ℕ, Bool, true, false, List, []}
+use Rattle.std.specs.Prelude.{◌∷◌, ◌++◌, Option, Some, None, length, take, map, count_by, All, Any}
+use Rattle.std.specs.Prelude.{Contains, slice_get, IfSome, ◌==◌, if◌then◌else◌}
 use Rattle.std.specs.List.{filter_map}
 use Rattle.std.specs.List.Sorted.{IsStrictlyIncreasing}
 use Rattle.ground_program.specs.declared.program.Mode.{Mode}
@@ -10,7 +13,9 @@ use Rattle.ground_program.specs.declared.program.Program.{Program}
 use Rattle.ground_program.specs.Meaning.{IsAnswerSet}
 use Rattle.ground_program.specs.Bounds.{IsCandidate, IsConsequence, Shows, HasCandidate}
 use Rattle.report.specs.declared.lines.Line.{Line}
-use Rattle.report.specs.declared.lines.Line.TheVariants.{Answer, SettledIn, SettledOut, Sizes, Watch, Unsettled, Unknown, Complete, Partial, Incoherent, NoMemory}
+use Rattle.report.specs.declared.lines.Line.TheVariants.{Answer, SettledIn, SettledOut, Sizes}
+use Rattle.report.specs.declared.lines.Line.TheVariants.{Watch, Unsettled, Unknown, Complete}
+use Rattle.report.specs.declared.lines.Line.TheVariants.{Partial, Incoherent, NoMemory}
 
 -- a line gives an answer set
 abbrev pub is_answer : Line → Bool
@@ -114,42 +119,51 @@ pub record IsWatcher (watch watcher : ℕ) : Type 0 where
   pub last : watcher ≤ watch
 
 -- an answer set in a line shows a candidate that no line settles
-pub record ShowsOpen (names : List Named) (mode : Mode) (before : List Line) (set : List Bool) : Type 0 where
+pub record ShowsOpen (names : List Named) (mode : Mode) (before : List Line) (set : List Bool) :
+    Type 0 where
   pub cand : ℕ
   pub unsettled : IsOpen names before cand
   pub shown : Shows names mode set cand
 
--- ANSWER: the numbers count up from 1, the set is an answer set, and it is the first or shows an open
+-- ANSWER: the numbers count up from 1, the set is an answer set, and it is the first or shows an
+-- open
 -- candidate
-pub record IsLegalAnswer (program : Program) (mode : Mode) (before : List Line) (number : ℕ) (set : List Bool) : Type 0 where
+pub record IsLegalAnswer (program : Program) (mode : Mode) (before : List Line) (number : ℕ)
+    (set : List Bool) : Type 0 where
   pub counted : number ≡ count_by is_answer before + 1
   pub answer_set : IsAnswerSet program set
   pub news : (count_by is_answer before ≡ 0) ⊎ ShowsOpen program.names mode before set
 
 -- IN: the candidate is open and a consequence
-pub record IsLegalIn (program : Program) (mode : Mode) (before : List Line) (cand by : ℕ) : Type 0 where
+pub record IsLegalIn (program : Program) (mode : Mode) (before : List Line) (cand by : ℕ) :
+    Type 0 where
   pub unsettled : IsOpen program.names before cand
   pub consequence : IsConsequence program mode cand
   pub named : InNames program.names mode before cand by
 
 -- OUT: the candidate is open and no consequence
-pub record IsLegalOut (program : Program) (mode : Mode) (before : List Line) (cand by : ℕ) : Type 0 where
+pub record IsLegalOut (program : Program) (mode : Mode) (before : List Line) (cand by : ℕ) :
+    Type 0 where
   pub unsettled : IsOpen program.names before cand
   pub no_consequence : ¬ IsConsequence program mode cand
   pub named : OutNames program.names mode before cand by
 
--- PAIR: the sizes are those that the lines so far make, each candidate that a set shows is settled, and the
+-- PAIR: the sizes are those that the lines so far make, each candidate that a set shows is settled,
+-- and the
 -- PAIR line before had other sizes
-pub record IsLegalSizes (program : Program) (mode : Mode) (before : List Line) (sizes : Extent) : Type 0 where
+pub record IsLegalSizes (program : Program) (mode : Mode) (before : List Line) (sizes : Extent) :
+    Type 0 where
   pub lower : sizes.lower ≡ count_by is_in before
   pub upper : sizes.upper ≡ length program.names - count_by is_out before
   pub shown : (cand by : ℕ) → IsCandidate program.names cand →
       IsShownBy program.names mode before cand by → IsSettled before cand
   pub news : last_of (all_sizes before) ≢ Some sizes
 
--- WATCH: the number of consequences lies between the sizes. They don't leave those that this watcher told
+-- WATCH: the number of consequences lies between the sizes. They don't leave those that this
+-- watcher told
 -- before, nor those of a PAIR line but the last, and the watcher's last line had other sizes
-pub record IsLegalWatch (program : Program) (mode : Mode) (watch : ℕ) (before : List Line) (watcher : ℕ) (sizes : Extent) : Type 0 where
+pub record IsLegalWatch (program : Program) (mode : Mode) (watch : ℕ) (before : List Line)
+    (watcher : ℕ) (sizes : Extent) : Type 0 where
   pub known : IsWatcher watch watcher
   pub lower : (truth : List Bool) → IsTruthOf program mode truth → sizes.lower ≤ count_true truth
   pub upper : (truth : List Bool) → IsTruthOf program mode truth → count_true truth ≤ sizes.upper
@@ -157,9 +171,11 @@ pub record IsLegalWatch (program : Program) (mode : Mode) (watch : ℕ) (before 
   pub printed : All (IsInside sizes) (all_but_last (all_sizes before))
   pub news : last_of (all_seen watcher before) ≢ Some sizes
 
--- a line may stand behind these lines; those that aren't named here stand only at the end, or in no report
+-- a line may stand behind these lines; those that aren't named here stand only at the end, or in no
+-- report
 abbrev pub IsLegalLine : Program → Mode → ℕ → List Line → Line → Type 0
-IsLegalLine program mode watch before (Answer number set) = IsLegalAnswer program mode before number set
+IsLegalLine program mode watch before (Answer number set) =
+    IsLegalAnswer program mode before number set
 IsLegalLine program mode watch before (SettledIn cand by) = IsLegalIn program mode before cand by
 IsLegalLine program mode watch before (SettledOut cand by) = IsLegalOut program mode before cand by
 IsLegalLine program mode watch before (Sizes lower upper) =
@@ -169,7 +185,8 @@ IsLegalLine program mode watch before (Watch watcher lower upper) =
 IsLegalLine program mode watch before _ = ⊥
 
 -- lines that may begin a report: each may stand behind those before it
-pub record IsLegalSoFar (program : Program) (mode : Mode) (watch : ℕ) (lines : List Line) : Type 0 where
+pub record IsLegalSoFar (program : Program) (mode : Mode) (watch : ℕ) (lines : List Line) :
+    Type 0 where
   pub each : (before after : List Line) (line : Line) → lines ≡ before ++ line ∷ after →
       IsLegalLine program mode watch before line
 
@@ -184,12 +201,14 @@ pub record EndsSized (lines : List Line) : Type 0 where
 
 -- each watcher has a WATCH line
 abbrev pub EachWatched : ℕ → List Line → Type 0
-EachWatched watch lines = (watcher : ℕ) → IsWatcher watch watcher → 1 ≤ length (all_seen watcher lines)
+EachWatched watch lines =
+    (watcher : ℕ) → IsWatcher watch watcher → 1 ≤ length (all_seen watcher lines)
 
 -- the last sizes that each watcher told don't leave those of any PAIR line but the last
 abbrev pub KeepsInside : ℕ → List Line → Type 0
 KeepsInside watch lines = (watcher : ℕ) → IsWatcher watch watcher →
-    IfSome (last_of (all_seen watcher lines)) (λ sizes. All (IsInside sizes) (all_but_last (all_sizes lines)))
+    IfSome (last_of (all_seen watcher lines))
+    (λ sizes. All (IsInside sizes) (all_but_last (all_sizes lines)))
 
 -- COMPLETE: an answer set was given and every candidate is settled
 pub record IsComplete (program : Program) (watch : ℕ) (body : List Line) : Type 0 where
@@ -203,7 +222,8 @@ pub record IsUnknown (budget : ℕ) (body tests : List Line) : Type 0 where
   pub unanswered : count_by is_answer body ≡ 0
   pub test : tests ≡ Unknown budget ∷ []
 
--- one OPEN line for each open candidate, ascending and at least one: an answer set was given, and the
+-- one OPEN line for each open candidate, ascending and at least one: an answer set was given, and
+-- the
 -- candidate's own test spent the budget
 pub record IsEachOpen (program : Program) (budget : ℕ) (body tests : List Line) : Type 0 where
   pub answered : 1 ≤ count_by is_answer body
@@ -226,15 +246,19 @@ pub record IsIncoherent (program : Program) (watch : ℕ) (body : List Line) : T
 
 -- a verdict behind the lines of a run and those of its spent tests, which PARTIAL alone has
 abbrev pub IsLegalVerdict : Program → ℕ → ℕ → List Line → List Line → Line → Type 0
-IsLegalVerdict program watch budget body tests Complete = IsComplete program watch body × (tests ≡ [])
+IsLegalVerdict program watch budget body tests Complete =
+    IsComplete program watch body × (tests ≡ [])
 IsLegalVerdict program watch budget body tests Partial = IsPartial program watch budget body tests
-IsLegalVerdict program watch budget body tests Incoherent = IsIncoherent program watch body × (tests ≡ [])
+IsLegalVerdict program watch budget body tests Incoherent =
+    IsIncoherent program watch body × (tests ≡ [])
 IsLegalVerdict program watch budget body tests NoMemory = tests ≡ []
 IsLegalVerdict program watch budget body tests _ = ⊥
 
--- a legal report of a run with so many watchers and so large a budget: lines that may begin one, the lines of
+-- a legal report of a run with so many watchers and so large a budget: lines that may begin one,
+-- the lines of
 -- spent tests, and a verdict
-pub record IsLegalReport (program : Program) (mode : Mode) (watch budget : ℕ) (lines : List Line) : Type 0 where
+pub record IsLegalReport (program : Program) (mode : Mode) (watch budget : ℕ) (lines : List Line) :
+    Type 0 where
   pub body : List Line
   pub tests : List Line
   pub verdict : Line

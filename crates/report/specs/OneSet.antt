@@ -1,11 +1,14 @@
--- The report on a program that has exactly one answer set, in cautious mode: the set, then each candidate.
-use Rattle.std.specs.Prelude.{◌≡◌, ℕ, zero, suc, Bool, List, [], ◌∷◌, ◌++◌, length, count_by, if◌then◌else◌}
+-- The report on a program that has exactly one answer set, in cautious mode: the set, then each
+-- candidate.
+use Rattle.std.specs.Prelude.{◌≡◌, ℕ, zero, suc, Bool, List, [], ◌∷◌, ◌++◌, length, count_by}
+use Rattle.std.specs.Prelude.{if◌then◌else◌}
 use Rattle.ground_program.specs.declared.program.Named.{Named}
 use Rattle.ground_program.specs.declared.program.Program.{Program}
 use Rattle.ground_program.specs.Meaning.{IsAnswerSet, has}
 use Rattle.ground_program.specs.Bounds.{atom_of}
 use Rattle.report.specs.declared.lines.Line.{Line}
-use Rattle.report.specs.declared.lines.Line.TheVariants.{Answer, SettledIn, SettledOut, Sizes, Complete}
+use Rattle.report.specs.declared.lines.Line.TheVariants.{Answer, SettledIn, SettledOut, Sizes}
+use Rattle.report.specs.declared.lines.Line.TheVariants.{Complete}
 
 -- the set is the one answer set of the program
 pub record IsOnlyAnswerSet (program : Program) (set : List Bool) : Type 0 where
@@ -20,7 +23,8 @@ settled_line names set cand =
 -- the lines of the candidates from 1 to `last`, ascending
 abbrev pub settled_lines : List Named → List Bool → ℕ → List Line
 settled_lines names set zero = []
-settled_lines names set (suc last) = settled_lines names set last ++ settled_line names set (suc last) ∷ []
+settled_lines names set (suc last) =
+    settled_lines names set last ++ settled_line names set (suc last) ∷ []
 
 -- how many candidates have their atom in the set
 abbrev pub count_in : List Named → List Bool → ℕ

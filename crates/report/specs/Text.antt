@@ -1,13 +1,21 @@
--- The text of a report: numbers are decimal, a blank stands before each field, and each line ends with a
+-- The text of a report: numbers are decimal, a blank stands before each field, and each line ends
+-- with a
 -- line feed.
-use Rattle.std.specs.Prelude.{ℕ, ◌+◌, ◌-◌, Bool, true, false, List, [], ◌∷◌, ◌++◌, flat_map, slice_get, codes, decimal, ⊤}
+use Rattle.std.specs.Prelude.{ℕ, ◌+◌, ◌-◌, Bool, true, false, List, [], ◌∷◌, ◌++◌, flat_map}
+use Rattle.std.specs.Prelude.{slice_get, codes, decimal, ⊤}
 use Rattle.std.specs.Option.{option_map_or}
 use Rattle.ground_program.specs.declared.program.Named.{Named}
 use Rattle.ground_program.specs.Bounds.{IsCandidate}
 use Rattle.report.specs.declared.lines.Line.{Line}
-use Rattle.report.specs.declared.lines.Line.TheVariants.{Answer, SettledIn, SettledOut, Sizes, Watch, Unsettled, Unknown, Complete, Partial, Incoherent, NoMemory, Refused}
+use Rattle.report.specs.declared.lines.Line.TheVariants.{Answer, SettledIn, SettledOut, Sizes}
+use Rattle.report.specs.declared.lines.Line.TheVariants.{Watch, Unsettled, Unknown, Complete}
+use Rattle.report.specs.declared.lines.Line.TheVariants.{Partial, Incoherent, NoMemory, Refused}
 use Rattle.report.specs.declared.lines.Why.{Why}
-use Rattle.report.specs.declared.lines.Why.TheVariants.{NotANumber, UnknownKind, MinimizeRule, AtomZero, NumberTooLarge, NegativeCount, MissingMark, ExternalSection, NameMissing, EndOfInput, TrailingText, TooLong, ReadFault, TooManyVariables, Words, NotYet}
+use Rattle.report.specs.declared.lines.Why.TheVariants.{NotANumber, UnknownKind, MinimizeRule}
+use Rattle.report.specs.declared.lines.Why.TheVariants.{AtomZero, NumberTooLarge, NegativeCount}
+use Rattle.report.specs.declared.lines.Why.TheVariants.{MissingMark, ExternalSection, NameMissing}
+use Rattle.report.specs.declared.lines.Why.TheVariants.{EndOfInput, TrailingText, TooLong}
+use Rattle.report.specs.declared.lines.Why.TheVariants.{ReadFault, TooManyVariables, Words, NotYet}
 
 -- the name of a candidate
 abbrev pub name_of : List Named → ℕ → List ℕ
@@ -49,11 +57,15 @@ text_of_why NotYet = codes "NotYet"
 -- the text of a line without its line feed
 abbrev pub words_of_line : List Named → Line → List ℕ
 words_of_line names (Answer number set) = codes "ANSWER" ++ fields (number ∷ positions_from 0 set)
-words_of_line names (SettledIn cand by) = codes "IN" ++ fields (cand ∷ by ∷ []) ++ field (name_of names cand)
-words_of_line names (SettledOut cand by) = codes "OUT" ++ fields (cand ∷ by ∷ []) ++ field (name_of names cand)
+words_of_line names (SettledIn cand by) =
+    codes "IN" ++ fields (cand ∷ by ∷ []) ++ field (name_of names cand)
+words_of_line names (SettledOut cand by) =
+    codes "OUT" ++ fields (cand ∷ by ∷ []) ++ field (name_of names cand)
 words_of_line names (Sizes lower upper) = codes "PAIR" ++ fields (lower ∷ upper ∷ [])
-words_of_line names (Watch watcher lower upper) = codes "WATCH" ++ fields (watcher ∷ lower ∷ upper ∷ [])
-words_of_line names (Unsettled cand units) = codes "OPEN" ++ fields (cand ∷ units ∷ []) ++ field (name_of names cand)
+words_of_line names (Watch watcher lower upper) =
+    codes "WATCH" ++ fields (watcher ∷ lower ∷ upper ∷ [])
+words_of_line names (Unsettled cand units) =
+    codes "OPEN" ++ fields (cand ∷ units ∷ []) ++ field (name_of names cand)
 words_of_line names (Unknown units) = codes "UNKNOWN" ++ fields (units ∷ [])
 words_of_line names Complete = codes "COMPLETE"
 words_of_line names Partial = codes "PARTIAL"

@@ -2,7 +2,8 @@
 ghost use Rattle.std.specs.Prelude.{◌≡◌, ◌++◌, [], ◌∷◌, List, codes, decimal};
 ghost use Rattle.byte_edges.specs.Edges.{Writes};
 ghost use Rattle.ground_program.specs.Bounds.{IsCandidate};
-ghost use Rattle.report.specs.Text.{NamesCandidate, text_of_line, words_of_line, text_of_why, name_of, field, fields, positions_from};
+ghost use Rattle.report.specs.Text.{NamesCandidate, text_of_line, words_of_line, text_of_why};
+ghost use Rattle.report.specs.Text.{name_of, field, fields, positions_from};
 
 use crate::{Line, Why};
 use byte_edges::{Sink, WriteFault, write_bytes};

@@ -1,28 +1,41 @@
--- Keys get the numbers of their bodies, and rules whose bodies have numbers stay so when one more follows.
+-- Keys get the numbers of their bodies, and rules whose bodies have numbers stay so when one more
+-- follows.
 use mathlib.Core.Bool.{beq}
-use Rattle.std.proofs.Common.{eqb, ◌&&◌, ◌≡◌, ◌≢◌, ◌≤◌, ◌<◌, ◌+◌, ◌⊎◌, ℕ, Bool, true, false, List, [], ◌∷◌, ◌++◌, Some, length, get_or, map, AllPairs, refl, sym, ap, subst, ◌∙◌, arith, if◌then◌else◌, inl, inr, ⊎_elim, slice_get}
+use Rattle.std.proofs.Common.{eqb, ◌&&◌, ◌≡◌, ◌≢◌, ◌≤◌, ◌<◌, ◌+◌, ◌⊎◌, ℕ, Bool, true, false, List}
+use Rattle.std.proofs.Common.{[], ◌∷◌, ◌++◌, Some, length, get_or, map, AllPairs, refl, sym, ap}
+use Rattle.std.proofs.Common.{subst, ◌∙◌, arith, if◌then◌else◌, inl, inr, ⊎_elim, slice_get}
 use Rattle.std.specs.Bool.{Decides}
 use Rattle.std.specs.List.{list_any}
 use Rattle.std.specs.Option.{option_map}
 use Rattle.std.proofs.lemmas.Bool.{cases_lt, both_ways}
 use Rattle.std.proofs.lemmas.Bool.Decides.{Decides-and, Decides-eqb, Decides-like}
-use Rattle.std.proofs.lemmas.List.{map_push, length-map, length_push, get_or_push, get_or_append_left, take-append-le, take_at}
+use Rattle.std.proofs.lemmas.List.{map_push, length-map, length_push, get_or_push}
+use Rattle.std.proofs.lemmas.List.{get_or_append_left, take-append-le, take_at}
 use Rattle.std.proofs.lemmas.List.Elements.{All-map}
 use Rattle.std.proofs.lemmas.List.Folds.{list_any_at}
 use Rattle.std.proofs.lemmas.List.Quantifiers.{all_pairs_push, Any-push}
-use Rattle.std.proofs.lemmas.Option.{slice_get-map, slice_get_within, slice_get_read, get_or_from_slice_get}
+use Rattle.std.proofs.lemmas.Option.{slice_get-map, slice_get_within, slice_get_read}
+use Rattle.std.proofs.lemmas.Option.{get_or_from_slice_get}
 use Rattle.ground_program.specs.declared.program.Rule.{Rule}
 use Rattle.normal_program.specs.declared.normal.BodyOf.{BodyOf}
 use Rattle.normal_program.specs.declared.normal.NormalRule.{NormalRule}
 use Rattle.normal_program.specs.Normal.{IsBodyOf, StandsFor, HasNumber, AreInOrder, AreNumbered}
-use Rattle.normal_program.proofs.ListLemmas.{Any-append_left, slice_get_append, IsSomeAnd-kept, AllZip-add, AllZip-weaker}
+use Rattle.normal_program.proofs.ListLemmas.{Any-append_left, slice_get_append, IsSomeAnd-kept}
+use Rattle.normal_program.proofs.ListLemmas.{AllZip-add, AllZip-weaker}
 use Rattle.rule_normaliser.specs.declared.key.KeyPart.{KeyPart}
 use Rattle.rule_normaliser.specs.declared.key.BodyKey.{BodyKey}
 use Rattle.rule_normaliser.specs.Key.{part_of, body_of, Numbers}
 
 -- a key part is its part
 pub part_of-injective : (one two : KeyPart) → part_of one ≡ part_of two → one ≡ two
-part_of-injective one two same = λ i. record { atom = (same i).lit.atom; negated = (same i).lit.negated; weight = (same i).weight }
+part_of-injective one two same =
+    λ i.
+    record {
+      atom = (same i).lit.atom;
+      negated = (same i).lit.negated;
+      weight =
+          (same i).weight;
+    }
 
 -- the test of two truth values
 beq-Decides : (one two : Bool) → Decides (beq one two) (one ≡ two)
@@ -32,12 +45,18 @@ beq-Decides false true = (λ e. cc, λ e. cc)
 beq-Decides false false = (λ e. refl, λ e. refl)
 
 -- key parts are compared field by field
-pub KeyPart-Decides : (one two : KeyPart) → Decides (eqb one.atom two.atom && (beq one.negated two.negated && eqb one.weight two.weight)) (one ≡ two)
+pub KeyPart-Decides : (one two : KeyPart)
+    → Decides (eqb one.atom two.atom && (beq one.negated two.negated && eqb one.weight two.weight))
+    (one ≡ two)
 KeyPart-Decides one two =
     Decides-like _
     (λ same. λ i. record { atom = same.0 i; negated = same.1.0 i; weight = same.1.1 i })
-    (λ same. (ap (λ (key : KeyPart). key.atom) same, (ap (λ (key : KeyPart). key.negated) same, ap (λ (key : KeyPart). key.weight) same)))
-    (Decides-and _ _ (Decides-eqb one.atom two.atom) (Decides-and _ _ (beq-Decides one.negated two.negated) (Decides-eqb one.weight two.weight)))
+    (λ same. (
+      ap (λ (key : KeyPart). key.atom) same,
+      (ap (λ (key : KeyPart). key.negated) same, ap (λ (key : KeyPart). key.weight) same),
+    ))
+    (Decides-and _ _ (Decides-eqb one.atom two.atom)
+    (Decides-and _ _ (beq-Decides one.negated two.negated) (Decides-eqb one.weight two.weight)))
 
 -- lists of key parts with the same parts are the same
 pub map-part_of-injective : (xs ys : List KeyPart) → map part_of xs ≡ map part_of ys → xs ≡ ys
@@ -50,14 +69,21 @@ map-part_of-injective (x ∷ xs) (y ∷ ys) same =
     λ i. part_of-injective x y first i ∷ map-part_of-injective xs ys rest i
 
 -- keys are compared by their bodies
-pub BodyKey-Decides : (one two : BodyKey) (parts : Bool) → Decides parts (one.parts.items ≡ two.parts.items) → Decides (eqb one.bound two.bound && parts) (body_of one ≡ body_of two)
+pub BodyKey-Decides : (one two : BodyKey) (parts : Bool)
+    → Decides parts (one.parts.items ≡ two.parts.items)
+    → Decides (eqb one.bound two.bound && parts) (body_of one ≡ body_of two)
 BodyKey-Decides one two parts decides =
     Decides-like _
     (λ same. λ i. record { bound = same.0 i; parts = map part_of (same.1 i) })
-    (λ same. (ap (λ (body : BodyOf). body.bound) same, map-part_of-injective one.parts.items two.parts.items (ap (λ (body : BodyOf). body.parts) same)))
+    (λ same. (
+      ap (λ (body : BodyOf). body.bound) same,
+      map-part_of-injective one.parts.items two.parts.items
+          (ap (λ (body : BodyOf). body.parts) same),
+    ))
     (Decides-and _ _ (Decides-eqb one.bound two.bound) decides)
 
-module _ (equal : BodyKey → BodyKey → Bool) (decides : (one two : BodyKey) → Decides (equal one two) (body_of one ≡ body_of two)) where
+module _ (equal : BodyKey → BodyKey → Bool)
+    (decides : (one two : BodyKey) → Decides (equal one two) (body_of one ≡ body_of two)) where
   -- a key that is put among others gives its body a number
   pub Numbers-insert : (keys new : List BodyKey) (key : BodyKey) (number : ℕ)
       → new ≡ (if list_any (equal key) keys then keys else keys ++ key ∷ [])
@@ -68,42 +94,65 @@ module _ (equal : BodyKey → BodyKey → Bool) (decides : (one two : BodyKey) �
       same : body_of key ≡ body_of stored.0
       same = (decides key stored.0).0 stored.2
 
-      by : (b : Bool) → list_any (equal key) keys ≡ b → Numbers (map body_of keys) (body_of key) (map body_of new) number
+      by : (b : Bool) → list_any (equal key) keys ≡ b
+          → Numbers (map body_of keys) (body_of key) (map body_of new) number
       by true e =
           let kept : new ≡ keys = inserted ∙ ap (λ b. if b then keys else keys ++ key ∷ []) e in
           inl (
             ap (map body_of) kept,
-            slice_get-map body_of keys number ∙ ap (option_map body_of) (ap (λ ks. slice_get ks number) (sym kept) ∙ stored.1) ∙ ap Some (sym same),
+            slice_get-map body_of keys number
+                ∙ ap (option_map body_of) (ap (λ ks. slice_get ks number) (sym kept) ∙ stored.1)
+                ∙ ap Some (sym same),
           )
       by false e =
-          let more : new ≡ keys ++ key ∷ [] = inserted ∙ ap (λ b. if b then keys else keys ++ key ∷ []) e in
-          let here : slice_get (keys ++ key ∷ []) number ≡ Some stored.0 = ap (λ ks. slice_get ks number) (sym more) ∙ stored.1 in
-          let within : number < length keys + 1 = omega (arith, slice_get_within (keys ++ key ∷ []) number stored.0 here, length_push keys key) in
+          let more : new ≡ keys ++ key ∷ [] =
+          inserted ∙ ap (λ b. if b then keys else keys ++ key ∷ []) e in
+          let here : slice_get (keys ++ key ∷ []) number ≡ Some stored.0 =
+          ap (λ ks. slice_get ks number) (sym more) ∙ stored.1 in
+          let within : number < length keys + 1 =
+          omega (
+            arith,
+            slice_get_within (keys ++ key ∷ []) number stored.0 here,
+            length_push keys key,
+          ) in
           inr (
             All-map (λ other. other ≢ body_of key) body_of keys
-                (λ k d h other. both_ways (list_any (equal key) keys) e (list_any_at (equal key) keys k d h ((decides key (get_or keys k d)).1 (sym other)))),
+                (λ k d h other. both_ways (list_any (equal key) keys) e
+                (list_any_at (equal key) keys k d h
+                ((decides key (get_or keys k d)).1 (sym other)))),
             ap (map body_of) more ∙ map_push body_of keys key,
             ⊎_elim (λ low. absurd (both_ways (list_any (equal key) keys) e
                 (list_any_at (equal key) keys number stored.0 low
-                (subst (λ k. equal key k ≡ true) (sym (sym (get_or_append_left keys (key ∷ []) stored.0 number low) ∙ get_or_from_slice_get (keys ++ key ∷ []) number stored.0 stored.0 here)) stored.2))))
-                (λ high. let end : number ≡ length keys = omega arith in end ∙ sym (length-map keys body_of))
+                (subst (λ k. equal key k ≡ true)
+                (sym
+                (sym (get_or_append_left keys (key ∷ []) stored.0 number low)
+                ∙ get_or_from_slice_get (keys ++ key ∷ []) number stored.0 stored.0
+                here)) stored.2))))
+                (λ high. let end : number ≡ length keys = omega arith in
+                end ∙ sym (length-map keys body_of))
                 (cases_lt number (length keys)),
           )
 
-module _ (old : List BodyOf) (body : BodyOf) (new : List BodyOf) (number : ℕ) (numbers : Numbers old body new number) where
+module _ (old : List BodyOf) (body : BodyOf) (new : List BodyOf) (number : ℕ)
+    (numbers : Numbers old body new number) where
   -- the body has its number
   pub Numbers-here : slice_get new number ≡ Some body
   Numbers-here = ⊎_elim
       (λ known. ap (λ bodies. slice_get bodies number) known.0 ∙ known.1)
-      (λ next. ap (λ bodies. slice_get bodies number) next.1 ∙ ap (slice_get (old ++ body ∷ [])) next.2
-      ∙ slice_get_read (old ++ body ∷ []) (length old + 1) (length old) body (sym (length_push old body)) (omega arith) (sym (get_or_push old body body (length old) refl)))
+      (λ next. ap (λ bodies. slice_get bodies number) next.1
+      ∙ ap (slice_get (old ++ body ∷ [])) next.2
+      ∙ slice_get_read (old ++ body ∷ []) (length old + 1) (length old) body
+      (sym (length_push old body)) (omega arith)
+      (sym (get_or_push old body body (length old) refl)))
       numbers
 
   -- the other bodies keep theirs
-  pub Numbers-kept : (at : ℕ) (other : BodyOf) → slice_get old at ≡ Some other → slice_get new at ≡ Some other
+  pub Numbers-kept : (at : ℕ) (other : BodyOf) → slice_get old at ≡ Some other
+      → slice_get new at ≡ Some other
   Numbers-kept at other here = ⊎_elim
       (λ known. ap (λ bodies. slice_get bodies at) known.0 ∙ here)
-      (λ next. ap (λ bodies. slice_get bodies at) next.1 ∙ slice_get_append old (body ∷ []) at other here)
+      (λ next. ap (λ bodies. slice_get bodies at) next.1
+      ∙ slice_get_append old (body ∷ []) at other here)
       numbers
 
   -- at most one number is new, and it is the next
@@ -123,22 +172,31 @@ module _ (old : List BodyOf) (body : BodyOf) (new : List BodyOf) (number : ℕ) 
   pub Numbers-cases : (at : ℕ) → at < length new → (at < length old) ⊎ (at ≡ number)
   Numbers-cases at within = ⊎_elim
       (λ known. inl (omega (arith, ap length known.0)))
-      (λ next. ⊎_elim (λ low. inl low) (λ high. inr (omega (arith, ap length next.1, length_push old body, next.2))) (cases_lt at (length old)))
+      (λ next. ⊎_elim (λ low. inl low)
+      (λ high. inr (omega (arith, ap length next.1, length_push old body, next.2)))
+      (cases_lt at (length old)))
       numbers
 
   -- bodies that differ go on differing
-  pub Numbers-differ : AllPairs (λ earlier later. earlier ≢ later) old → AllPairs (λ earlier later. earlier ≢ later) new
+  pub Numbers-differ : AllPairs (λ earlier later. earlier ≢ later) old
+      → AllPairs (λ earlier later. earlier ≢ later) new
   Numbers-differ differ = ⊎_elim
       (λ known. subst (AllPairs (λ earlier later. earlier ≢ later)) (sym known.0) differ)
-      (λ next. subst (AllPairs (λ earlier later. earlier ≢ later)) (sym next.1) (all_pairs_push (λ earlier later. earlier ≢ later) old body differ next.0))
+      (λ next. subst (AllPairs (λ earlier later. earlier ≢ later)) (sym next.1)
+      (all_pairs_push (λ earlier later. earlier ≢ later) old body differ next.0))
       numbers
 
-  module _ (normals : List NormalRule) (rules : List Rule) (numbered : AreNumbered old normals rules) (normal : NormalRule) (rule : Rule)
-      (kind : normal.kind ≡ rule.kind) (heads : normal.heads ≡ rule.heads) (at : normal.body ≡ number) (of_rule : IsBodyOf rule body) where
+  module _ (normals : List NormalRule) (rules : List Rule)
+      (numbered : AreNumbered old normals rules) (normal : NormalRule) (rule : Rule)
+      (kind : normal.kind ≡ rule.kind) (heads : normal.heads ≡ rule.heads)
+      (at : normal.body ≡ number) (of_rule : IsBodyOf rule body) where
     -- one more rule
     pub AreNumbered-push : AreNumbered new (normals ++ normal ∷ []) (rules ++ rule ∷ [])
     AreNumbered-push = record {
-      each = AllZip-add (StandsFor new) normals rules normal rule (AllZip-weaker (StandsFor old) (StandsFor new) still normals rules numbered.each) stands;
+      each =
+          AllZip-add (StandsFor new) normals rules normal rule
+          (AllZip-weaker (StandsFor old) (StandsFor new) still normals rules numbered.each)
+          stands;
       differ = Numbers-differ numbered.differ;
       used = λ k within. ⊎_elim
           (λ low. Any-append_left (λ one. one.body ≡ k) normals (normal ∷ []) (numbered.used k low))
@@ -147,23 +205,52 @@ module _ (old : List BodyOf) (body : BodyOf) (new : List BodyOf) (number : ℕ) 
       order = in_order;
     }
       where
-        still : (one : NormalRule) (source : Rule) → StandsFor old one source → StandsFor new one source
-        still one source fact = record { kind = fact.kind; heads = fact.heads; body = IsSomeAnd-kept (IsBodyOf source) (slice_get old one.body) (slice_get new one.body) (Numbers-kept one.body) fact.body }
+        still : (one : NormalRule) (source : Rule) → StandsFor old one source
+            → StandsFor new one source
+        still one source fact =
+            record {
+              kind = fact.kind;
+              heads = fact.heads;
+              body =
+                  IsSomeAnd-kept (IsBodyOf source) (slice_get old one.body) (slice_get new one.body)
+                  (Numbers-kept one.body) fact.body;
+            }
 
         stands : StandsFor new normal rule
-        stands = record { kind = kind; heads = heads; body = IsSomeAnd-kept (IsBodyOf rule) (Some body) (slice_get new normal.body) (λ x same. ap (slice_get new) at ∙ Numbers-here ∙ same) of_rule }
+        stands =
+            record {
+              kind = kind;
+              heads = heads;
+              body =
+                  IsSomeAnd-kept (IsBodyOf rule) (Some body) (slice_get new normal.body)
+                  (λ x same. ap (slice_get new) at ∙ Numbers-here ∙ same) of_rule;
+            }
 
         in_order : AreInOrder (normals ++ normal ∷ [])
         in_order place one here k less = ⊎_elim
             (λ low.
-            let there : get_or (normals ++ normal ∷ []) place one ≡ one = get_or_from_slice_get (normals ++ normal ∷ []) place one one here in
-            let seen : slice_get normals place ≡ Some one = slice_get_read normals (length normals) place one refl low (sym there ∙ get_or_append_left normals (normal ∷ []) one place low) in
-            subst (λ before. HasNumber before k) (sym (take-append-le place normals (normal ∷ []) (omega arith))) (numbered.order place one seen k less))
+            let there : get_or (normals ++ normal ∷ []) place one ≡ one =
+            get_or_from_slice_get (normals ++ normal ∷ []) place one one here in
+            let seen : slice_get normals place ≡ Some one =
+            slice_get_read normals (length normals) place one refl low
+            (sym there ∙ get_or_append_left normals (normal ∷ []) one place low) in
+            subst (λ before. HasNumber before k)
+            (sym (take-append-le place normals (normal ∷ []) (omega arith)))
+            (numbered.order place one seen k less))
             (λ high.
-            let within : place < length normals + 1 = omega (arith, slice_get_within (normals ++ normal ∷ []) place one here, length_push normals normal) in
+            let within : place < length normals + 1 =
+            omega (
+              arith,
+              slice_get_within (normals ++ normal ∷ []) place one here,
+              length_push normals normal,
+            ) in
             let last : place ≡ length normals = omega arith in
-            let there : get_or (normals ++ normal ∷ []) place one ≡ one = get_or_from_slice_get (normals ++ normal ∷ []) place one one here in
-            let same : normal ≡ one = sym (get_or_push normals normal one place (sym last)) ∙ there in
-            let low : k < length old = omega (arith, less, ap (λ (r : NormalRule). r.body) same, at, Numbers-next) in
-            subst (λ before. HasNumber before k) (sym (take_at normals (normal ∷ []) place (sym last))) (numbered.used k low))
+            let there : get_or (normals ++ normal ∷ []) place one ≡ one =
+            get_or_from_slice_get (normals ++ normal ∷ []) place one one here in
+            let same : normal ≡ one =
+            sym (get_or_push normals normal one place (sym last)) ∙ there in
+            let low : k < length old =
+            omega (arith, less, ap (λ (r : NormalRule). r.body) same, at, Numbers-next) in
+            subst (λ before. HasNumber before k)
+            (sym (take_at normals (normal ∷ []) place (sym last))) (numbered.used k low))
             (cases_lt place (length normals))

@@ -1,5 +1,6 @@
 -- What keys of bodies stand for. No public clause cites this module.
-use Rattle.std.specs.Prelude.{◌≡◌, ◌≢◌, ◌⊎◌, ◌≤◌, ℕ, Some, slice_get, length, List, [], ◌∷◌, ◌++◌, map, All}
+use Rattle.std.specs.Prelude.{◌≡◌, ◌≢◌, ◌⊎◌, ◌≤◌, ℕ, Some, slice_get, length, List, [], ◌∷◌, ◌++◌}
+use Rattle.std.specs.Prelude.{map, All}
 use Rattle.ground_program.specs.declared.program.Weighted.{Weighted}
 use Rattle.normal_program.specs.declared.normal.Part.{Part}
 use Rattle.normal_program.specs.declared.normal.BodyOf.{BodyOf}
@@ -9,7 +10,8 @@ use Rattle.normal_program.specs.Body.{rank, IsMerged}
 
 -- the part of a key's part
 abbrev pub part_of : KeyPart → Part
-part_of key = record { lit = record { atom = key.atom; negated = key.negated }; weight = key.weight }
+part_of key =
+    record { lit = record { atom = key.atom; negated = key.negated }; weight = key.weight }
 
 -- the body of a key
 abbrev pub body_of : BodyKey → BodyOf

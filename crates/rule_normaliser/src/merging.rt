@@ -1,5 +1,6 @@
 // Merging a body: its literals are sorted, and neighbours with one literal become one part.
-ghost use Rattle.std.specs.Prelude.{◌≡◌, ◌+◌, ◌^◌, ◌<◌, ◌≤◌, [], ◌∷◌, ◌++◌, List, length, map, All, IfOk, OnOk, IsPermutation};
+ghost use Rattle.std.specs.Prelude.{◌≡◌, ◌+◌, ◌^◌, ◌<◌, ◌≤◌, [], ◌∷◌, ◌++◌, List, length, map, All};
+ghost use Rattle.std.specs.Prelude.{IfOk, OnOk, IsPermutation};
 ghost use Rattle.std.specs.List.Sorted.{IsNonDecreasingBy};
 ghost use Rattle.ground_program.specs.declared.program.Weighted.{Weighted};
 ghost use Rattle.ground_program.specs.Program.{IsNumber};

@@ -2,7 +2,8 @@
 ghost use Rattle.std.specs.Prelude.{◌≡◌, ◌≤◌, ◌<◌, ◌+◌, ◌^◌, length, map, IfOk, IfErr};
 ghost use Rattle.ground_program.specs.Program.{IsProgram};
 ghost use Rattle.rule_normaliser.specs.Key.{body_of};
-ghost use Rattle.normal_program.specs.Normal.{IsNormalFormOf, AreNumbered, variables, SameBodies, SameAnswerSets};
+ghost use Rattle.normal_program.specs.Normal.{IsNormalFormOf, AreNumbered, variables, SameBodies};
+ghost use Rattle.normal_program.specs.Normal.{SameAnswerSets};
 ghost use Rattle.rule_normaliser.specs.Cause.{IsCauseOf};
 
 use crate::numbering::{Numbered, bodies_of, number_rules};

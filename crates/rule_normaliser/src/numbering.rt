@@ -47,7 +47,9 @@ pub fn number_rules(alloc: Global, rules: &[Rule]) -> Result<Numbered, NoMemory>
 
 // The number of a body.
 fn number_of(keys: &mut IndexSet<BodyKey>, key: BodyKey) -> Result<usize, NoMemory>
-    ensures { IfOk result (λ number. Numbers (map body_of keys.old.keys) (body_of key) (map body_of keys.new.keys) number) }
+    ensures { IfOk result
+        (λ number. Numbers (map body_of keys.old.keys) (body_of key) (map body_of keys.new.keys)
+        number) }
 {
     let (number, _) = keys.insert_full(key)?;
     Ok(number)

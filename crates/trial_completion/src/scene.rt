@@ -33,7 +33,8 @@ pub fn program_of(alloc: Global, text: &[u8]) -> Option<Program>
     parse(alloc, text).ok()
 }
 
-/// The normal form of a text. None is a text without a program or with too many variables, or want of
+/// The normal form of a text. None is a text without a program or with too many variables, or want
+/// of
 /// memory.
 pub fn normal_of(alloc: Global, text: &[u8]) -> Option<Normal>
     ensures { IfSome result IsNormal }

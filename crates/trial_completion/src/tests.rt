@@ -18,7 +18,8 @@ struct Case {
 // In each program atom 1 is forbidden. Atom a has the literal 2 * a, the bodies have the variables
 // after the atoms, and the selectors those after the bodies.
 static CASES: [Case; 3] = [
-    // The fact 2. Its body is empty, and the selectors are open. 2 alone is the answer set, so "1 or
+    // The fact 2. Its body is empty, and the selectors are open. 2 alone is the answer set, so "1
+    // or
     // not 2" is false in it.
     Case {
         text: b"1 2 0 0\n0\n2 a\n0\nB+\n0\nB-\n1\n0\n1\n",
@@ -79,7 +80,8 @@ fn propagation_decides_what_base_clauses_force(rt: HostRuntime) -> Result<(), Fa
     Ok(())
 }
 
-/// Whether the slow check tells each base clause of a case to be entailed, and the other clause not.
+/// Whether the slow check tells each base clause of a case to be entailed, and the other clause
+/// not.
 fn is_told_apart(alloc: Global, case: &Case) -> Result<bool, NormalError> {
     let Some(program) = program_of(alloc, case.text) else {
         return Ok(false);

@@ -1,5 +1,6 @@
 -- That the answers of a search are right.
-use Rattle.std.proofs.Common.{◌≡◌, ◌≢◌, ℕ, List, [], ◌∷◌, length, take, get_or, Option, Some, None, refl, sym, ap, ◌∙◌, subst, inl, inr, arith}
+use Rattle.std.proofs.Common.{◌≡◌, ◌≢◌, ℕ, List, [], ◌∷◌, length, take, get_or, Option, Some, None}
+use Rattle.std.proofs.Common.{refl, sym, ap, ◌∙◌, subst, inl, inr, arith}
 use Rattle.std.specs.Prelude.{All, Contains, slice_get}
 use Rattle.std.proofs.Math.Seq.{take-length}
 use Rattle.std.proofs.lemmas.List.Elements.{All-cons, All-nil, All-weaker, All-contains}
@@ -12,7 +13,8 @@ use Rattle.clause_store.specs.declared.step.Step.{Step}
 use Rattle.clause_store.specs.Clause.{variable, negation, IsTrueIn, IsOver, AreOver}
 use Rattle.clause_store.specs.Entailment.{InClosure}
 use Rattle.clause_store.specs.Standing.{IsFalse, IsConflict}
-use Rattle.clause_store.specs.Trail.{Assigned, IsTrail, IsTrailOf, IsTotal, step_of, value_by, value_of, values_of}
+use Rattle.clause_store.specs.Trail.{Assigned, IsTrail, IsTrailOf, IsTotal, step_of, value_by}
+use Rattle.clause_store.specs.Trail.{value_of, values_of}
 use Rattle.clause_store.proofs.LiteralLemmas.{any_from}
 use Rattle.clause_store.proofs.TrailLemmas.{total_means}
 use Rattle.clause_store.proofs.EntailmentLemmas.{not_refuted}
@@ -23,85 +25,118 @@ use Rattle.conflict_learning.specs.AssumptionCore.{IsCore, IsDecision, CannotMee
 use Rattle.conflict_learning.proofs.AssignedLemmas.{here_at, level_found, refuter, step_of_before}
 use Rattle.conflict_learning.proofs.GivenLemmas.{ground_known}
 use Rattle.conflict_learning.proofs.LearnedLemmas.{conflict_false}
-use Rattle.trial_learning.specs.Search.{AreTrue, AreAssumedFirst, MeanTheSame, IsModelUnder, IsUnmet, IsSearchAnswer}
+use Rattle.trial_learning.specs.Search.{AreTrue, AreAssumedFirst, MeanTheSame, IsModelUnder}
+use Rattle.trial_learning.specs.Search.{IsUnmet, IsSearchAnswer}
 use Rattle.trial_learning.specs.declared.search.Answer.{Answer}
 use Rattle.trial_learning.specs.declared.search.Answer.TheVariants.{Model, Core}
 
 -- ---- models
 
-pub is_model : (trail : Assigned) (clauses : List (List Lit)) (assumed : List Lit) → IsTotal trail → AreOver trail.vars clauses → IsFixpoint clauses trail.steps
-    → All (IsOver trail.vars) assumed → AreTrue trail.steps assumed → IsModelUnder clauses assumed trail
+pub is_model : (trail : Assigned) (clauses : List (List Lit)) (assumed : List Lit) → IsTotal trail
+    → AreOver trail.vars clauses → IsFixpoint clauses trail.steps
+    → All (IsOver trail.vars) assumed → AreTrue trail.steps assumed
+    → IsModelUnder clauses assumed trail
 is_model trail clauses assumed total over fixpoint assumed_over are =
     record {
       meets = total_fixpoint_meets trail clauses total over fixpoint;
-      true_lits = λ k d within. (total_means trail (get_or assumed k d) total (assumed_over k d within)).1 (are k d within);
+      true_lits =
+          λ k d within. (total_means trail (get_or assumed k d) total (assumed_over k d within)).1
+          (are k d within);
     }
 
 -- ---- cores
 
-all_ground : (steps : List Step) (lits : List Lit) → greatest_level steps lits ≡ 0 → All (λ lit. level_at steps lit ≡ 0) lits
+all_ground : (steps : List Step) (lits : List Lit) → greatest_level steps lits ≡ 0
+    → All (λ lit. level_at steps lit ≡ 0) lits
 all_ground steps [] level = All-nil (λ lit. level_at steps lit ≡ 0)
-all_ground steps (lit ∷ rest) level = All-cons (λ l. level_at steps l ≡ 0) lit rest (omega arith) (all_ground steps rest (omega arith))
+all_ground steps (lit ∷ rest) level =
+    All-cons (λ l. level_at steps l ≡ 0) lit rest (omega arith)
+    (all_ground steps rest (omega arith))
 
 -- what is false at level 0 is refuted with nothing decided
-ground_closure : (clauses : List (List Lit)) (trail : Assigned) (lit : Lit) → IsTrail trail → IsTrailOf trail.steps clauses → IsFalse trail.steps lit → level_at trail.steps lit ≡ 0
+ground_closure : (clauses : List (List Lit)) (trail : Assigned) (lit : Lit) → IsTrail trail
+    → IsTrailOf trail.steps clauses → IsFalse trail.steps lit → level_at trail.steps lit ≡ 0
     → InClosure clauses [] (negation lit)
 ground_closure clauses trail lit is of wrong level known has closed =
     let by = refuter trail.steps lit wrong in
     subst (Contains known) by.negates
     (All-contains (λ step. step.level ≡ 0 → Contains known step.lit) trail.steps by.step
-    (subst (All (λ step. step.level ≡ 0 → Contains known step.lit)) (take-length trail.steps) (ground_known clauses trail known is of closed (length trail.steps) (omega arith)))
+    (subst (All (λ step. step.level ≡ 0 → Contains known step.lit)) (take-length trail.steps)
+    (ground_known clauses trail known is of closed (length trail.steps) (omega arith)))
     by.here (sym (level_found trail.steps lit by.step by.found).0 ∙ level))
 
 -- where a clause is false at level 0, the clauses can't be met
-pub none_met : (clauses : List (List Lit)) (trail : Assigned) (assumed : List Lit) (at : ClauseRef) (lits : List Lit) → IsTrail trail → IsTrailOf trail.steps clauses → IsConflict clauses trail.steps at
-    → slice_get clauses at.0 ≡ Some lits → greatest_level trail.steps lits ≡ 0 → IsUnmet clauses assumed []
+pub none_met : (clauses : List (List Lit)) (trail : Assigned) (assumed : List Lit) (at : ClauseRef)
+    (lits : List Lit) → IsTrail trail → IsTrailOf trail.steps clauses
+    → IsConflict clauses trail.steps at
+    → slice_get clauses at.0 ≡ Some lits → greatest_level trail.steps lits ≡ 0
+    → IsUnmet clauses assumed []
 none_met clauses trail assumed at lits is of conflict named level =
     record {
       among = All-nil (Contains assumed);
       unmet = λ values meets all.
           not_refuted values clauses [] meets (All-nil (IsTrueIn values))
-          (any_from (λ clause. All (λ lit. InClosure clauses [] (negation lit)) clause) clauses lits (here_at clauses at.0 lits named)
-          (λ k d within. ground_closure clauses trail (get_or lits k d) is of (wrong k d within) (all_ground trail.steps lits level k d within)));
+          (any_from (λ clause. All (λ lit. InClosure clauses [] (negation lit)) clause) clauses lits
+          (here_at clauses at.0 lits named)
+          (λ k d within. ground_closure clauses trail (get_or lits k d) is of (wrong k d within)
+          (all_ground trail.steps lits level k d within)));
     }
   where
     wrong : All (IsFalse trail.steps) lits
     wrong = conflict_false clauses trail.steps at lits conflict named
 
 -- what was true is true
-true_later : (n : ℕ) (steps : List Step) (lit : Lit) → value_of (take n steps) lit ≡ Yes → value_of steps lit ≡ Yes
+true_later : (n : ℕ) (steps : List Step) (lit : Lit) → value_of (take n steps) lit ≡ Yes
+    → value_of steps lit ≡ Yes
 true_later n steps lit is = go (step_of (take n steps) (variable lit)) refl is
   where
-    go : (o : Option Step) → step_of (take n steps) (variable lit) ≡ o → value_by o lit ≡ Yes → value_of steps lit ≡ Yes
+    go : (o : Option Step) → step_of (take n steps) (variable lit) ≡ o → value_by o lit ≡ Yes
+        → value_of steps lit ≡ Yes
     go None found made = absurd (cc)
-    go (Some step) found made = ap (λ o. value_by o lit) (step_of_before n steps (variable lit) step found) ∙ made
+    go (Some step) found made =
+        ap (λ o. value_by o lit) (step_of_before n steps (variable lit) step found) ∙ made
 
 -- the decisions behind a false assumed literal are assumed
-decision_assumed : (assumed : List Lit) (steps : List Step) (refused lit : Lit) → AreAssumedFirst assumed steps → Contains assumed refused → IsFalse steps refused → IsDecision steps lit → Contains assumed lit
+decision_assumed : (assumed : List Lit) (steps : List Step) (refused lit : Lit)
+    → AreAssumedFirst assumed steps → Contains assumed refused → IsFalse steps refused
+    → IsDecision steps lit → Contains assumed lit
 decision_assumed assumed steps refused lit first here wrong (k, step, within, is, made) =
     elim (first k step (slice_get_read steps (length steps) k step refl within (sym is)) made.1) [
       | inl among ↦ subst (Contains assumed) made.0 among
       | inr all_true ↦
-          let was : value_of (take k steps) refused ≡ Yes = All-contains (λ l. value_of (take k steps) l ≡ Yes) assumed refused all_true here in
+          let was : value_of (take k steps) refused ≡ Yes =
+          All-contains (λ l. value_of (take k steps) l ≡ Yes) assumed refused all_true here in
           let is_yes = true_later k steps refused was in absurd (cc)
     ]
 
-pub core_unmet : (clauses : List (List Lit)) (steps : List Step) (assumed : List Lit) (refused : Lit) (core : List Lit) → AreAssumedFirst assumed steps → Contains assumed refused → IsFalse steps refused
+pub core_unmet : (clauses : List (List Lit)) (steps : List Step) (assumed : List Lit)
+    (refused : Lit) (core : List Lit) → AreAssumedFirst assumed steps → Contains assumed refused
+    → IsFalse steps refused
     → IsCore steps refused core → CannotMeet clauses core → IsUnmet clauses assumed core
 core_unmet clauses steps assumed refused core first here wrong is unmet =
     record {
       among = subst (All (Contains assumed)) (sym is.is)
           (All-cons (Contains assumed) refused is.decisions here
-          (All-weaker (IsDecision steps) (Contains assumed) (λ lit. decision_assumed assumed steps refused lit first here wrong) is.decisions is.decided));
+          (All-weaker (IsDecision steps) (Contains assumed)
+          (λ lit. decision_assumed assumed steps refused lit first here wrong) is.decisions
+          is.decided));
       unmet = unmet;
     }
 
 -- ---- answers
 
 -- an answer about clauses that mean the same
-pub answer_before : (old new : List (List Lit)) (assumed : List Lit) (trail : Assigned) (answer : Answer) → MeanTheSame old new → IsSearchAnswer new assumed trail answer → IsSearchAnswer old assumed trail answer
-answer_before old new assumed trail Model same is = record { meets = (same (values_of trail)).1 is.meets; true_lits = is.true_lits }
-answer_before old new assumed trail (Core core) same is = record { among = is.among; unmet = λ values meets all. is.unmet values ((same values).0 meets) all }
+pub answer_before : (old new : List (List Lit)) (assumed : List Lit) (trail : Assigned)
+    (answer : Answer) → MeanTheSame old new → IsSearchAnswer new assumed trail answer
+    → IsSearchAnswer old assumed trail answer
+answer_before old new assumed trail Model same is =
+    record { meets = (same (values_of trail)).1 is.meets; true_lits = is.true_lits }
+answer_before old new assumed trail (Core core) same is =
+    record {
+      among = is.among;
+      unmet =
+          λ values meets all. is.unmet values ((same values).0 meets) all;
+    }
 
 -- a literal that is neither true nor unset is false
 pub is_no : (value : Value) → value ≢ Yes → value ≢ Unset → value ≡ No

@@ -1,5 +1,6 @@
 -- What a search keeps on its way, and what it answers.
-use Rattle.std.specs.Prelude.{◌≡◌, ◌≢◌, ◌<◌, ◌+◌, ◌⊎◌, ◌↔◌, ◌++◌, ℕ, Bool, List, length, take, slice_get, All, Contains, None, Some}
+use Rattle.std.specs.Prelude.{◌≡◌, ◌≢◌, ◌<◌, ◌+◌, ◌⊎◌, ◌↔◌, ◌++◌, ℕ, Bool, List, length, take}
+use Rattle.std.specs.Prelude.{slice_get, All, Contains, None, Some}
 use Rattle.clause_store.specs.declared.literal.Lit.{Lit}
 use Rattle.clause_store.specs.declared.literal.Value.TheVariants.{Yes}
 use Rattle.clause_store.specs.declared.step.Step.{Step}
@@ -45,9 +46,11 @@ pub record AddsUnits (old new : List (List Lit)) : Type 0 where
   pub added : new ≡ old ++ units
   pub are : AreUnits old units
 
--- a search went on: its clauses mean the same, those that came are units, the assumed literals still
+-- a search went on: its clauses mean the same, those that came are units, the assumed literals
+-- still
 -- come first, and all is still settled below
-pub record GoesOn (assumed : List Lit) (clauses more : List (List Lit)) (old new : Assigned) : Type 0 where
+pub record GoesOn (assumed : List Lit) (clauses more : List (List Lit)) (old new : Assigned) :
+    Type 0 where
   pub vars : new.vars ≡ old.vars
   pub same : MeanTheSame clauses more
   pub units : AddsUnits clauses more
@@ -65,7 +68,8 @@ IsNearer clauses more old new =
     (length more ≡ length clauses + 1) ⊎ IsLaterState clauses more old new
 
 -- the assignments of a trail meet the clauses, and make the assumed literals true
-pub record IsModelUnder (clauses : List (List Lit)) (assumed : List Lit) (trail : Assigned) : Type 0 where
+pub record IsModelUnder (clauses : List (List Lit)) (assumed : List Lit) (trail : Assigned) :
+    Type 0 where
   pub meets : Meets (values_of trail) clauses
   pub true_lits : All (IsTrueIn (values_of trail)) assumed
 

@@ -8,7 +8,8 @@ ghost use Rattle.clause_store.specs.Trail.{IsTrail, present_level, up_to};
 ghost use Rattle.propagator.specs.Watched.{IsReady};
 ghost use Rattle.propagator.specs.Fixpoint.{IsFixpoint};
 ghost use Rattle.trial_learning.specs.Search.{AreAssumedFirst, AreSettledBelow, AreTrue};
-ghost use Rattle.trial_learning.specs.Search.{AddsUnits, GoesOn, IsSearchAnswer, IsLaterState, IsNearer, IsNotTrueAt};
+ghost use Rattle.trial_learning.specs.Search.{AddsUnits, GoesOn, IsSearchAnswer, IsLaterState};
+ghost use Rattle.trial_learning.specs.Search.{IsNearer, IsNotTrueAt};
 
 use crate::next_decision::{first_not_true, know_trail, least_unset};
 use clause_store::{Clause, ClauseRef, Lit, NoMemory, Store, Trail, Value};
@@ -225,7 +226,8 @@ impl Search {
         requires over { All (IsOver self.old.trail.vars) assumed.now }
         requires assumed { AreTrue self.old.trail.steps assumed.now }
         ensures ready { IsReady self.new.store self.new.trail self.new.watches }
-        ensures on { GoesOn assumed.now self.old.store self.new.store self.old.trail self.new.trail }
+        ensures on { GoesOn assumed.now self.old.store self.new.store self.old.trail
+            self.new.trail }
         ensures answer { IfSome result (IsSearchAnswer self.old.store assumed.now self.new.trail) }
         ensures nearer { IfNone result (
             IsLaterState self.old.store self.new.store self.old.trail.steps self.new.trail.steps) }

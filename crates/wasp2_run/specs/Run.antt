@@ -1,5 +1,6 @@
 -- What a run may write for its words and its input, and the status with which it ends.
-use Rattle.std.specs.Prelude.{◌≡◌, ◌≤◌, ◌<◌, ◌⊎◌, ℕ, List, [], ◌∷◌, ◌++◌, Option, Some, None, length, take, codes}
+use Rattle.std.specs.Prelude.{◌≡◌, ◌≤◌, ◌<◌, ◌⊎◌, ℕ, List, [], ◌∷◌, ◌++◌, Option, Some, None}
+use Rattle.std.specs.Prelude.{length, take, codes}
 use Rattle.byte_edges.specs.Faults.{Rose}
 use Rattle.byte_edges.specs.Edges.{Appended}
 use Rattle.ground_program.specs.declared.program.Mode.TheVariants.{Cautious}
@@ -30,7 +31,8 @@ IsShort input = length input ≤ 67108864
 abbrev pub refusal : ℕ → Why → ℕ → List ℕ
 refusal line why value = text_of_line [] (lines.Refused line why value)
 
--- the text of a report that ends with this line and is legal for the program, by a cautious run without watchers
+-- the text of a report that ends with this line and is legal for the program, by a cautious run
+-- without watchers
 pub record IsReport (program : Program) (last : Line) (text : List ℕ) : Type 0 where
   pub before : List Line
   pub legal : IsLegalReport program Cautious 0 100000 (before ++ last ∷ [])
@@ -38,9 +40,12 @@ pub record IsReport (program : Program) (last : Line) (text : List ℕ) : Type 0
 
 -- what is written for a program, with the status
 pub data Answers (program : Program) : ℕ → List ℕ → Type 0 where
-  complete : {text : List ℕ} → IsBuilt program → IsReport program lines.Complete text → Answers program 0 text
-  incoherent : {text : List ℕ} → IsBuilt program → IsReport program lines.Incoherent text → Answers program 2 text
-  not_yet : {number : ℕ} → IsNotYet program number → Answers program 3 (refusal 0 whys.NotYet number)
+  complete : {text : List ℕ} → IsBuilt program → IsReport program lines.Complete text
+      → Answers program 0 text
+  incoherent : {text : List ℕ} → IsBuilt program → IsReport program lines.Incoherent text
+      → Answers program 2 text
+  not_yet : {number : ℕ} → IsNotYet program number
+      → Answers program 3 (refusal 0 whys.NotYet number)
   no_memory : {text : List ℕ} → IsReport program lines.NoMemory text → Answers program 7 text
 
 -- the word for a fault of a text
@@ -74,7 +79,8 @@ refusal_text errors.NoMemory = text_of_line [] lines.NoMemory
 abbrev pub IsRefusalOf : ReadError → ℕ → List ℕ → Type 0
 IsRefusalOf error status text = (status ≡ refusal_status error) × (text ≡ refusal_text error)
 
--- what is written for words and input, with the status. The two counts are those of the source's faults before
+-- what is written for words and input, with the status. The two counts are those of the source's
+-- faults before
 -- and after the run
 pub data Row (words : List (List ℕ)) (input : List ℕ) (before now : ℕ) : ℕ → List ℕ → Type 0 where
   answered : {status : ℕ} {text : List ℕ} (program : Program) → IsQuery words → IsShort input →
@@ -85,11 +91,13 @@ pub data Row (words : List (List ℕ)) (input : List ℕ) (before now : ℕ) : �
   too_long : IsQuery words → 67108864 < length input →
       Row words input before now 3 (refusal 0 whys.TooLong 67108864)
   other_words : ¬ IsQuery words → Row words input before now 4 (refusal 0 whys.Words 0)
-  read_fault : IsQuery words → Rose before now → Row words input before now 5 (refusal 0 whys.ReadFault 0)
+  read_fault : IsQuery words → Rose before now
+      → Row words input before now 5 (refusal 0 whys.ReadFault 0)
   no_memory : Row words input before now 7 (text_of_line [] lines.NoMemory)
   silent : Row words input before now 7 []
 
--- a row of the table, for the input that the source told. Where it told none, this is said of other words alone
+-- a row of the table, for the input that the source told. Where it told none, this is said of other
+-- words alone
 abbrev pub IsAllowed : List (List ℕ) → Option (List ℕ) → ℕ → ℕ → ℕ → List ℕ → Type 0
 IsAllowed words None before now status text = IsQuery words ⊎ Row words [] before now status text
 IsAllowed words (Some input) before now status text = Row words input before now status text
@@ -104,9 +112,15 @@ pub record IsCutOff (Allowed : ℕ → List ℕ → Type 0) (before now : ℕ) (
   pub part : text ≡ take count whole
 
 -- a run: what was written, where the sink tells it, is allowed with the status, or it was cut off
-pub record Ran {S K : Type 0} (left : S → Option (List ℕ)) (read_faults : S → ℕ) (written : K → Option (List ℕ)) (write_faults : K → ℕ) (words : List (List ℕ)) (source_old source_new : S) (sink_old sink_new : K) (status : ℕ) : Type 0 where
+pub record Ran {S K : Type 0} (left : S → Option (List ℕ)) (read_faults : S → ℕ)
+    (written : K → Option (List ℕ)) (write_faults : K → ℕ) (words : List (List ℕ))
+    (source_old source_new : S) (sink_old sink_new : K) (status : ℕ) : Type 0 where
   pub text : List ℕ
   pub appended : Appended (written sink_old) (written sink_new) text
   pub ends :
-      IsAllowed words (left source_old) (read_faults source_old) (read_faults source_new) status text
-      ⊎ ((status ≡ 6) × IsCutOff (IsAllowed words (left source_old) (read_faults source_old) (read_faults source_new)) (write_faults sink_old) (write_faults sink_new) text)
+      IsAllowed words (left source_old) (read_faults source_old) (read_faults source_new) status
+      text
+      ⊎ ((status ≡ 6)
+      × IsCutOff
+      (IsAllowed words (left source_old) (read_faults source_old) (read_faults source_new))
+      (write_faults sink_old) (write_faults sink_new) text)

@@ -14,7 +14,8 @@ use report::{Line, write_line};
 /// Writes the report on a program whose one answer set is `set`.
 pub fn write_one_set<K: Sink>(names: &Names, set: Set, sink: &mut K) -> Result<(), WriteFault>
     requires { length names.now < 2 ^ 31 }
-    ensures { Writes K.written K.faults sink.old sink.new (text_of_lines names.now (one_set_report names.now set)) result }
+    ensures { Writes K.written K.faults sink.old sink.new
+        (text_of_lines names.now (one_set_report names.now set)) result }
 {
     let set = write_answer(names, set, sink)?;
     write_candidates(names, set.as_slice(), sink)
@@ -22,7 +23,8 @@ pub fn write_one_set<K: Sink>(names: &Names, set: Set, sink: &mut K) -> Result<(
 
 // Writes the set, and gives it back.
 fn write_answer<K: Sink>(names: &Names, set: Set, sink: &mut K) -> Result<Set, WriteFault>
-    ensures written { Writes K.written K.faults sink.old sink.new (text_of_line names.now (Answer 1 set)) result }
+    ensures written { Writes K.written K.faults sink.old sink.new
+        (text_of_line names.now (Answer 1 set)) result }
     ensures same { IfOk result (λ given. given ≡ set) }
 {
     let line = Line::Answer { number: 1, set };
@@ -48,7 +50,8 @@ fn write_candidates<K: Sink>(names: &Names, set: &[bool], sink: &mut K) -> Resul
 // Writes the line of each candidate, ascending.
 fn write_settled<K: Sink>(names: &Names, set: &[bool], sink: &mut K) -> Result<(), WriteFault>
     requires { length names.now < 2 ^ 31 }
-    ensures { Writes K.written K.faults sink.old sink.new (text_of_lines names.now (settled_lines names.now set.now (length names.now))) result }
+    ensures { Writes K.written K.faults sink.old sink.new
+        (text_of_lines names.now (settled_lines names.now set.now (length names.now))) result }
 {
     for at in 0..names.len() {
         let line = settled(names, at as u32 + 1, set);
@@ -59,7 +62,8 @@ fn write_settled<K: Sink>(names: &Names, set: &[bool], sink: &mut K) -> Result<(
 
 // Writes the sizes of the two bounds, which are one, and the verdict.
 fn write_end<K: Sink>(names: &Names, size: u32, sink: &mut K) -> Result<(), WriteFault>
-    ensures { Writes K.written K.faults sink.old sink.new (text_of_line names.now (Sizes size size) ++ text_of_line names.now Complete) result }
+    ensures { Writes K.written K.faults sink.old sink.new
+        (text_of_line names.now (Sizes size size) ++ text_of_line names.now Complete) result }
 {
     let sizes = Line::Sizes {
         lower: size,

@@ -1,5 +1,6 @@
 // The top call.
-ghost use Rattle.std.specs.Prelude.{◌≡◌, ◌≢◌, ◌↔◌, ◌⊎◌, [], Some, IsTrue, IfSome, IfOk, map, codes, string_bytes};
+ghost use Rattle.std.specs.Prelude.{◌≡◌, ◌≢◌, ◌↔◌, ◌⊎◌, [], Some, IsTrue, IfSome, IfOk, map, codes};
+ghost use Rattle.std.specs.Prelude.{string_bytes};
 ghost use Rattle.byte_edges.specs.Faults.{Rose};
 ghost use Rattle.wasp2_run.specs.Run.{IsQuery, IsAllowed, IsRefusalOf, Ran, why_of};
 ghost use Rattle.wasp2_run.specs.Ending.{Ends};
@@ -34,7 +35,8 @@ pub fn run<S: Source, K: Sink>(
         source.old source.new sink.old sink.new result.status }
     ensures read_fault { result.status ≡ 5 → Rose (S.faults source.old) (S.faults source.new) }
     ensures write_fault { result.status ≡ 6 → Rose (K.faults sink.old) (K.faults sink.new) }
-    ensures all_read { (result.status ≡ 0) ⊎ (result.status ≡ 2) → IfSome (S.left source.old) (λ _. S.left source.new ≡ Some []) }
+    ensures all_read { (result.status ≡ 0) ⊎ (result.status ≡ 2)
+        → IfSome (S.left source.old) (λ _. S.left source.new ≡ Some []) }
     ensures unread { result.status ≡ 4 → source.new ≡ source.old }
 {
     match run_whole(alloc, words, source, sink) {
@@ -51,9 +53,13 @@ fn run_whole<S: Source, K: Sink>(
     sink: &mut K,
 ) -> Result<u8, WriteFault>
     ensures table { Ends K.written K.faults sink.old sink.new
-        (IsAllowed (map string_bytes words.now) (S.left source.old) (S.faults source.old) (S.faults source.new)) result }
-    ensures read_fault { IfOk result (λ status. status ≡ 5 → Rose (S.faults source.old) (S.faults source.new)) }
-    ensures all_read { IfOk result (λ status. (status ≡ 0) ⊎ (status ≡ 2) → IfSome (S.left source.old) (λ _. S.left source.new ≡ Some [])) }
+        (IsAllowed (map string_bytes words.now) (S.left source.old) (S.faults source.old)
+        (S.faults source.new)) result }
+    ensures read_fault { IfOk result
+        (λ status. status ≡ 5 → Rose (S.faults source.old) (S.faults source.new)) }
+    ensures all_read { IfOk result
+        (λ status. (status ≡ 0) ⊎ (status ≡ 2)
+        → IfSome (S.left source.old) (λ _. S.left source.new ≡ Some [])) }
     ensures unread { IfOk result (λ status. status ≡ 4 → source.new ≡ source.old) }
     ensures known { IfOk result (λ status. status ≢ 6) }
 {

@@ -5,6 +5,8 @@ use Rattle.completion.proofs.body_clauses.asks_for_all.Given as goal
 
 abbrev pub invariant-loop-part : goal.invariant-loop-part
 invariant-loop-part l = record {
-  sum : l.left + sum_by (λ (part : Part). part.weight) (take l.part-index l.part-items) ≡ l.body.bound;
-  some : list_all (λ (part : Part). not (nat_eq part.weight 0)) (take l.part-index l.part-items) ≡ true;
+  sum : l.left + sum_by (λ (part : Part). part.weight) (take l.part-index l.part-items)
+      ≡ l.body.bound;
+  some : list_all (λ (part : Part). not (nat_eq part.weight 0)) (take l.part-index l.part-items)
+      ≡ true;
 }

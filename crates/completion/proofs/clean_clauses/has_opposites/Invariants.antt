@@ -5,4 +5,5 @@ use Rattle.normal_program.specs.Clauses.{has_lit}
 use Rattle.completion.proofs.clean_clauses.has_opposites.Given as goal
 
 abbrev pub invariant-loop-lit : goal.invariant-loop-lit
-invariant-loop-lit l = list_any (λ lit. has_lit l.lits (negation lit)) (take l.lit-index l.lits) ≡ false
+invariant-loop-lit l =
+    list_any (λ lit. has_lit l.lits (negation lit)) (take l.lit-index l.lits) ≡ false

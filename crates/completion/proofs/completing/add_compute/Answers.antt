@@ -26,6 +26,7 @@ returns-clause-err c =
     (cleaned (map (λ atom. alone (negative atom)) atoms)))
     c.as_slice-2.ensures some in
     subst (GainsFirst c.args.store.now c.add_false.new.store) (sym (cleaned-append must must_not))
-    (Gains-first c.args.store.now c.add_true.new.store c.add_false.new.store (cleaned must) (cleaned must_not)
+    (Gains-first c.args.store.now c.add_true.new.store c.add_false.new.store (cleaned must)
+    (cleaned must_not)
     first second))
     c.add_false.ensures.err

@@ -14,7 +14,8 @@ returns-clause-over c = base_clauses-over c.args.normal.now c.requires
 
 pub returns-clause-trails : goal.returns-clause-trails
 returns-clause-trails c =
-    gain_keeps_trails c.complete_whole.result c.args.store.now c.complete_whole.new.store (base_clauses c.args.normal.now)
+    gain_keeps_trails c.complete_whole.result c.args.store.now c.complete_whole.new.store
+    (base_clauses c.args.normal.now)
     c.complete_whole.ensures.ok c.complete_whole.ensures.err
 
 pub returns-clause-entailed : goal.returns-clause-entailed

@@ -1,8 +1,10 @@
 use Rattle.std.proofs.Common.{List, map, flat_map, sym, subst, ◌++◌}
 use Rattle.clause_store.specs.declared.literal.Lit.{Lit}
-use Rattle.normal_program.specs.Clauses.{base_clauses, body_clauses, numbered_bodies, rule_clauses, support_clause, atoms_of_normal, compute_clauses, cleaned}
+use Rattle.normal_program.specs.Clauses.{base_clauses, body_clauses, numbered_bodies, rule_clauses}
+use Rattle.normal_program.specs.Clauses.{support_clause, atoms_of_normal, compute_clauses, cleaned}
 use Rattle.completion.specs.Filling.{Gains, GainsFirst}
-use Rattle.completion.proofs.GainLemmas.{Gains-then, Gains-first, GainsFirst-more, OnErr-from, OnErr-weaker, base_split}
+use Rattle.completion.proofs.GainLemmas.{Gains-then, Gains-first, GainsFirst-more, OnErr-from}
+use Rattle.completion.proofs.GainLemmas.{OnErr-weaker, base_split}
 use Rattle.completion.proofs.completing.complete_whole.Goals as goal
 
 pub returns-in_err-add_rules-clause-err : goal.returns-in_err-add_rules-clause-err
@@ -19,7 +21,8 @@ returns-in_err-add_rules-clause-err c =
     (c.in_err-add_rules.ensures).err in
     OnErr-from _ _
     (subst (GainsFirst old new) (sym (base_split normal))
-    (GainsFirst-more old new new (one ++ two ++ three) four (GainsFirst-more old new new (one ++ two) three some)))
+    (GainsFirst-more old new new (one ++ two ++ three) four
+    (GainsFirst-more old new new (one ++ two) three some)))
 
 pub returns-in_err-add_supports-clause-err : goal.returns-in_err-add_supports-clause-err
 returns-in_err-add_supports-clause-err c =
@@ -31,12 +34,15 @@ returns-in_err-add_supports-clause-err c =
     let old = c.args.store.now in
     let new = c.add_supports.new.store in
     let both : Gains old c.add_rules.new.store (one ++ two) =
-    Gains-then old c.add_bodies.new.store c.add_rules.new.store one two (c.in_ok-add_bodies.ensures).ok
+    Gains-then old c.add_bodies.new.store c.add_rules.new.store one two
+    (c.in_ok-add_bodies.ensures).ok
     (c.in_ok-add_rules.ensures).ok in
     let some : GainsFirst old new (one ++ two ++ three) =
-    Gains-first old c.add_rules.new.store new (one ++ two) three both (c.in_err-add_supports.ensures).err in
+    Gains-first old c.add_rules.new.store new (one ++ two) three both
+    (c.in_err-add_supports.ensures).err in
     OnErr-from _ _
-    (subst (GainsFirst old new) (sym (base_split normal)) (GainsFirst-more old new new (one ++ two ++ three) four some))
+    (subst (GainsFirst old new) (sym (base_split normal))
+    (GainsFirst-more old new new (one ++ two ++ three) four some))
 
 pub returns-clause-err : goal.returns-clause-err
 returns-clause-err c =
@@ -48,7 +54,8 @@ returns-clause-err c =
     let old = c.args.store.now in
     let new = c.add_compute.new.store in
     let both : Gains old c.add_rules.new.store (one ++ two) =
-    Gains-then old c.add_bodies.new.store c.add_rules.new.store one two (c.in_ok-add_bodies.ensures).ok
+    Gains-then old c.add_bodies.new.store c.add_rules.new.store one two
+    (c.in_ok-add_bodies.ensures).ok
     (c.in_ok-add_rules.ensures).ok in
     let all : Gains old c.add_supports.new.store (one ++ two ++ three) =
     Gains-then old c.add_rules.new.store c.add_supports.new.store (one ++ two) three both

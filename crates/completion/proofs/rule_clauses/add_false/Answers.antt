@@ -10,7 +10,8 @@ returns-in_err-add_clause-clause-err c =
     let at = c.loop-atom.atom-index in
     let within : at < length atoms = omega arith in
     OnErr-from _ _
-    (Gains-stopped (map (λ atom. alone (negative atom))) (mapped_apart (λ atom. alone (negative atom))) c.args.store.now
+    (Gains-stopped (map (λ atom. alone (negative atom)))
+    (mapped_apart (λ atom. alone (negative atom))) c.args.store.now
     c.loop-atom.store c.add_clause.new.store atoms at (get_or atoms at 0) within
     (get_or_default atoms at 0 (get_or atoms at 0) within) c.loop-atom.invariant
     (GainsFirst-none c.loop-atom.store c.add_clause.new.store _ (c.in_err-add_clause.ensures).err))

@@ -1,4 +1,5 @@
-use Rattle.std.proofs.Common.{◌≡◌, ◌≤◌, ◌<◌, true, false, not, List, All, [], ◌∷◌, length, map, flat_map, get_or, if◌then◌else◌, sym, subst, ap, ◌∙◌, arith}
+use Rattle.std.proofs.Common.{◌≡◌, ◌≤◌, ◌<◌, true, false, not, List, All, [], ◌∷◌, length, map}
+use Rattle.std.proofs.Common.{flat_map, get_or, if◌then◌else◌, sym, subst, ap, ◌∙◌, arith}
 use Rattle.std.proofs.lemmas.List.Concat.{flat_map-append}
 use Rattle.clause_store.specs.declared.literal.Lit.{Lit}
 use Rattle.clause_store.specs.Clause.{variable}
@@ -7,9 +8,11 @@ use Rattle.normal_program.specs.Normal.{body_var}
 use Rattle.normal_program.specs.Clauses.{positive, negative, is_choice, rule_clauses, cleaned}
 use Rattle.normal_program.specs.Loop.{IsAtomOf}
 use Rattle.completion.specs.Filling.{Gains}
-use Rattle.completion.proofs.GainLemmas.{Gains-more, Gains-stopped, Gains-nothing, GainsFirst-none, OnErr-from, flat_map-one, vars-positive}
+use Rattle.completion.proofs.GainLemmas.{Gains-more, Gains-stopped, Gains-nothing, GainsFirst-none}
+use Rattle.completion.proofs.GainLemmas.{OnErr-from, flat_map-one, vars-positive}
 use Rattle.completion.proofs.rule_clauses.add_rules.Goals as goal
-use Rattle.completion.proofs.rule_clauses.add_rules.Goals.{then-is_no_choice+in_ok-clause+in_ok-add_clause, else-is_no_choice}
+use Rattle.completion.proofs.rule_clauses.add_rules.Goals.{then-is_no_choice+in_ok-clause+in_ok-add_clause}
+use Rattle.completion.proofs.rule_clauses.add_rules.Goals.{else-is_no_choice}
 
 pub loop-rule-preserved : goal.loop-rule-preserved
 loop-rule-preserved c =
@@ -33,17 +36,21 @@ loop-rule-preserved c =
           (ap (λ b. if b then [] else clause ∷ []) other) in
           let added : w.as_slice-then-is_no_choice.result.now ≡ clause =
           w.as_slice-then-is_no_choice.ensures.value ∙ w.in_ok-clause.ensures
-          ∙ ap (λ heads. negative (body_var normal rule.body) ∷ map positive heads) w.as_slice.ensures in
+          ∙ ap (λ heads. negative (body_var normal rule.body) ∷ map positive heads)
+          w.as_slice.ensures in
           subst (λ clauses. Gains c.loop-rule.store c.if-is_no_choice.store (cleaned clauses))
           (ap (λ one. one ∷ []) added ∙ sym made) (w.store-is ∙ (w.in_ok-add_clause.ensures).ok)
       | else-is_no_choice w ↦
           let choice : is_choice rule.kind ≡ true =
           sym c.is_no_choice.ensures ∙ ap not w.if-is_no_choice.false in
           Gains-nothing c.loop-rule.store c.if-is_no_choice.store _ w.store-is
-          (flat_map-one (rule_clauses normal) rule [] (ap (λ b. if b then [] else clause ∷ []) choice))
+          (flat_map-one (rule_clauses normal) rule []
+          (ap (λ b. if b then [] else clause ∷ []) choice))
     ] in
-    Gains-more (flat_map (rule_clauses normal)) (flat_map-append (rule_clauses normal)) c.args.store.now
-    c.loop-rule.store c.if-is_no_choice.store normal.rules at rule within here c.loop-rule.invariant step
+    Gains-more (flat_map (rule_clauses normal)) (flat_map-append (rule_clauses normal))
+    c.args.store.now
+    c.loop-rule.store c.if-is_no_choice.store normal.rules at rule within here c.loop-rule.invariant
+    step
 
 pub returns-in_err-clause-clause-err : goal.returns-in_err-clause-clause-err
 returns-in_err-clause-clause-err c =
@@ -56,7 +63,8 @@ returns-in_err-clause-clause-err c =
     let here : rule ≡ get_or normal.rules at rule =
     c.rule-item.is ∙ ap (λ (rules : List NormalRule). get_or rules at rule) same in
     OnErr-from _ _
-    (Gains-stopped (flat_map (rule_clauses normal)) (flat_map-append (rule_clauses normal)) c.args.store.now
+    (Gains-stopped (flat_map (rule_clauses normal)) (flat_map-append (rule_clauses normal))
+    c.args.store.now
     c.loop-rule.store c.loop-rule.store normal.rules at rule within here c.loop-rule.invariant
     (GainsFirst-none c.loop-rule.store c.loop-rule.store _ (λ i. c.loop-rule.store)))
 
@@ -71,7 +79,8 @@ returns-in_err-add_clause-clause-err c =
     let here : rule ≡ get_or normal.rules at rule =
     c.rule-item.is ∙ ap (λ (rules : List NormalRule). get_or rules at rule) same in
     OnErr-from _ _
-    (Gains-stopped (flat_map (rule_clauses normal)) (flat_map-append (rule_clauses normal)) c.args.store.now
+    (Gains-stopped (flat_map (rule_clauses normal)) (flat_map-append (rule_clauses normal))
+    c.args.store.now
     c.loop-rule.store c.add_clause.new.store normal.rules at rule within here c.loop-rule.invariant
     (GainsFirst-none c.loop-rule.store c.add_clause.new.store _ (c.in_err-add_clause.ensures).err))
 
@@ -94,4 +103,5 @@ add_clause-requires c =
     (c.as_slice-then-is_no_choice.ensures.value ∙ c.in_ok-clause.ensures
     ∙ ap (λ heads. negative (body_var normal rule.body) ∷ map positive heads) c.as_slice.ensures))
     (vars-positive (body_var normal rule.body) rule.heads (omega arith)
-    (λ k d h. record { first = (atoms k d h).first; last = omega (arith, (atoms k d h).last, few) }))
+    (λ k d h.
+    record { first = (atoms k d h).first; last = omega (arith, (atoms k d h).last, few) }))

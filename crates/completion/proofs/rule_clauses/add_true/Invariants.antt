@@ -5,4 +5,5 @@ use Rattle.completion.proofs.rule_clauses.add_true.Given as goal
 
 abbrev pub invariant-loop-atom : goal.invariant-loop-atom
 invariant-loop-atom l =
-    Gains l.initial.store l.store (cleaned (map (λ atom. alone (positive atom)) (take l.atom-index l.atoms)))
+    Gains l.initial.store l.store
+    (cleaned (map (λ atom. alone (positive atom)) (take l.atom-index l.atoms)))

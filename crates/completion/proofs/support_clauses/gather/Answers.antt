@@ -1,4 +1,5 @@
-use Rattle.std.proofs.Common.{◌≡◌, ◌<◌, ◌++◌, [], ◌∷◌, List, length, get_or, take, sym, subst, ap, ◌∙◌}
+use Rattle.std.proofs.Common.{◌≡◌, ◌<◌, ◌++◌, [], ◌∷◌, List, length, get_or, take, sym, subst, ap}
+use Rattle.std.proofs.Common.{◌∙◌}
 use Rattle.std.proofs.lemmas.List.{take_more}
 use Rattle.clause_store.specs.declared.literal.Lit.{Lit}
 use Rattle.clause_store.proofs.LiteralLemmas.{lit_of_code}
@@ -21,12 +22,17 @@ loop-rule-preserved c =
     c.rule-item.is ∙ ap (λ (rules : List NormalRule). get_or rules at rule) same in
     let lit : c.positive.result ≡ positive (body_var normal rule.body) =
     lit_of_code c.positive.result (positive (body_var normal rule.body)) c.positive.ensures in
-    let notes : NotesAll rule.heads (positive (body_var normal rule.body)) (rows_of c.loop-rule.rows)
+    let notes : NotesAll rule.heads (positive (body_var normal rule.body))
+    (rows_of c.loop-rule.rows)
     (rows_of c.note.new.rows) =
     subst
-    (λ (one : Lit). NotesAll rule.heads one (rows_of c.loop-rule.rows) (rows_of c.note.new.rows)) lit
+    (λ (one : Lit). NotesAll rule.heads one (rows_of c.loop-rule.rows) (rows_of c.note.new.rows))
+    lit
     c.in_ok-note.ensures in
     subst (λ rules. AreSupports normal rules (rows_of c.note.new.rows))
-    (sym (take_more normal.rules at rule within ∙ ap (λ one. take at normal.rules ++ one ∷ []) (sym here)))
-    (AreSupports-more normal (take at normal.rules) rule (rows_of c.loop-rule.rows) (rows_of c.note.new.rows)
+    (sym
+    (take_more normal.rules at rule within
+    ∙ ap (λ one. take at normal.rules ++ one ∷ []) (sym here)))
+    (AreSupports-more normal (take at normal.rules) rule (rows_of c.loop-rule.rows)
+    (rows_of c.note.new.rows)
     c.loop-rule.invariant notes)

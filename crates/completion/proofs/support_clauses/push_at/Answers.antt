@@ -1,4 +1,5 @@
-use Rattle.std.proofs.Common.{◌≡◌, ◌<◌, ◌++◌, [], ◌∷◌, length, slice_set, get_or, sym, ap, ◌∙◌, arith}
+use Rattle.std.proofs.Common.{◌≡◌, ◌<◌, ◌++◌, [], ◌∷◌, length, slice_set, get_or, sym, ap, ◌∙◌}
+use Rattle.std.proofs.Common.{arith}
 use Rattle.std.proofs.lemmas.List.{map-set, get_or-map, length-map}
 use Rattle.std.specs.declared.vec.Vec.{Vec}
 use Rattle.std.specs.declared.alloc.Global.{Global}
@@ -17,4 +18,5 @@ returns c =
     ap (λ (one : Vec Lit Global). one.items) c.index_mut.ensures.value
     ∙ sym (get_or-map (λ (one : Vec Lit Global). one.items) rows.items at row [] within) in
     map-set (λ (one : Vec Lit Global). one.items) rows.items at c.push.new.self
-    ∙ ap (slice_set (rows_of rows) at) ((c.in_ok-push.ensures).items ∙ ap (λ items. items ++ c.args.lit ∷ []) old)
+    ∙ ap (slice_set (rows_of rows) at)
+    ((c.in_ok-push.ensures).items ∙ ap (λ items. items ++ c.args.lit ∷ []) old)

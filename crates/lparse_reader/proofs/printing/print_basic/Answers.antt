@@ -7,7 +7,8 @@ pub returns-in_err-print_numbers : goal.returns-in_err-print_numbers
 returns-in_err-print_numbers g c =
     let body = c.args.rule.now.body in
     let failed = rw c.as_slice.ensures at c.in_err-print_numbers.ensures in
-    fields_cut c.args.rule.now.heads (counts body ++ body_atoms body) c.from_residual.ensures.0 failed
+    fields_cut c.args.rule.now.heads (counts body ++ body_atoms body) c.from_residual.ensures.0
+    failed
 
 pub returns-in_err-print_counts : goal.returns-in_err-print_counts
 returns-in_err-print_counts g c =
@@ -15,7 +16,8 @@ returns-in_err-print_counts g c =
     let heads = rw c.as_slice.ensures at c.in_ok-print_numbers.ensures in
     let failed = rw c.as_slice-2.ensures at c.in_err-print_counts.ensures in
     fields_then c.args.rule.now.heads (counts body ++ body_atoms body) heads
-    (fields_cut (counts body) (body_atoms body) c.from_residual-in_err-print_counts.ensures.0 failed)
+    (fields_cut (counts body) (body_atoms body) c.from_residual-in_err-print_counts.ensures.0
+    failed)
 
 pub returns : goal.returns
 returns g c =
@@ -23,4 +25,5 @@ returns g c =
     let heads = rw c.as_slice.ensures at c.in_ok-print_numbers.ensures in
     let numbers = rw c.as_slice-2.ensures at c.in_ok-print_counts.ensures in
     fields_then c.args.rule.now.heads (counts body ++ body_atoms body) heads
-    (fields_then (counts body) (body_atoms body) numbers (rw c.as_slice-3.ensures at c.print_literals.ensures))
+    (fields_then (counts body) (body_atoms body) numbers
+    (rw c.as_slice-3.ensures at c.print_literals.ensures))

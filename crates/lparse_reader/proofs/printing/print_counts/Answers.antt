@@ -7,7 +7,11 @@ use Rattle.lparse_reader.proofs.printing.print_counts.Goals as goal
 
 pub returns-in_err-print_number : goal.returns-in_err-print_number
 returns-in_err-print_number g c =
-    writes_fault c.from_residual.ensures.0 (writes_longer (next_fields (negatives c.args.body.now ∷ [])) c.in_err-print_number.ensures)
+    writes_fault c.from_residual.ensures.0
+    (writes_longer (next_fields (negatives c.args.body.now ∷ [])) c.in_err-print_number.ensures)
 
 pub returns : goal.returns
-returns g c = writes_then c.in_ok-print_number.ensures (last_field (negatives c.args.body.now) (rw c.negatives_of.ensures at c.print_number-2.ensures))
+returns g c =
+    writes_then c.in_ok-print_number.ensures
+    (last_field (negatives c.args.body.now)
+    (rw c.negatives_of.ensures at c.print_number-2.ensures))

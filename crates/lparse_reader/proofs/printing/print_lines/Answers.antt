@@ -4,7 +4,8 @@ use Rattle.lparse_reader.proofs.printing.print_lines.Goals as goal
 
 pub returns-in_err-print : goal.returns-in_err-print
 returns-in_err-print g c =
-    lines_cut g.T.Line.line c.args.items.now c.loop-item.item-index c.item-item.result (number_line 0) c.from_residual.ensures.0
+    lines_cut g.T.Line.line c.args.items.now c.loop-item.item-index c.item-item.result
+    (number_line 0) c.from_residual.ensures.0
     c.loop-item-test.true c.item-item.is c.loop-item.invariant c.in_err-print.ensures
 
 pub loop-item-preserved : goal.loop-item-preserved
@@ -13,4 +14,6 @@ loop-item-preserved g c =
     c.loop-item-test.true c.item-item.is c.loop-item.invariant c.in_ok-print.ensures
 
 pub returns : goal.returns
-returns g c = lines_then g.T.Line.line c.args.items.now c.loop-item.item-index c.loop-item-test.false c.loop-item.invariant c.print-2.ensures
+returns g c =
+    lines_then g.T.Line.line c.args.items.now c.loop-item.item-index c.loop-item-test.false
+    c.loop-item.invariant c.print-2.ensures

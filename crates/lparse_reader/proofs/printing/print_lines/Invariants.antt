@@ -4,4 +4,6 @@ use Rattle.lparse_reader.proofs.TextWrites.{Wrote}
 use Rattle.lparse_reader.proofs.printing.print_lines.Given as goal
 
 abbrev pub invariant-loop-item : goal.invariant-loop-item
-invariant-loop-item g l = Wrote g.K.Sink.written g.K.Sink.faults l.initial.sink l.sink (flat_map g.T.Line.line (take l.item-index l.items))
+invariant-loop-item g l =
+    Wrote g.K.Sink.written g.K.Sink.faults l.initial.sink l.sink
+    (flat_map g.T.Line.line (take l.item-index l.items))

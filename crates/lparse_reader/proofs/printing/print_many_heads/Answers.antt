@@ -9,14 +9,18 @@ pub returns-in_err-print_number : goal.returns-in_err-print_number
 returns-in_err-print_number g c =
     let rule = c.args.rule.now in
     let failed = rw c.len.ensures at c.in_err-print_number.ensures in
-    writes_fault c.from_residual.ensures.0 (writes_longer (next_fields (rule.heads ++ (counts rule.body ++ body_atoms rule.body))) failed)
+    writes_fault c.from_residual.ensures.0
+    (writes_longer (next_fields (rule.heads ++ (counts rule.body ++ body_atoms rule.body)))
+    failed)
 
 pub returns-in_err-print_numbers : goal.returns-in_err-print_numbers
 returns-in_err-print_numbers g c =
     let rule = c.args.rule.now in
     let many = rw c.len.ensures at c.in_ok-print_number.ensures in
     let failed = rw c.as_slice.ensures at c.in_err-print_numbers.ensures in
-    writes_then many (fields_cut rule.heads (counts rule.body ++ body_atoms rule.body) c.from_residual-in_err-print_numbers.ensures.0 failed)
+    writes_then many
+    (fields_cut rule.heads (counts rule.body ++ body_atoms rule.body)
+    c.from_residual-in_err-print_numbers.ensures.0 failed)
 
 pub returns-in_err-print_counts : goal.returns-in_err-print_counts
 returns-in_err-print_counts g c =
@@ -25,7 +29,8 @@ returns-in_err-print_counts g c =
     let heads = rw c.as_slice.ensures at c.in_ok-print_numbers.ensures in
     let failed = rw c.as_slice-2.ensures at c.in_err-print_counts.ensures in
     writes_then many (fields_then rule.heads (counts rule.body ++ body_atoms rule.body) heads
-    (fields_cut (counts rule.body) (body_atoms rule.body) c.from_residual-in_err-print_counts.ensures.0 failed))
+    (fields_cut (counts rule.body) (body_atoms rule.body)
+    c.from_residual-in_err-print_counts.ensures.0 failed))
 
 pub returns : goal.returns
 returns g c =
@@ -34,4 +39,5 @@ returns g c =
     let heads = rw c.as_slice.ensures at c.in_ok-print_numbers.ensures in
     let numbers = rw c.as_slice-2.ensures at c.in_ok-print_counts.ensures in
     writes_then many (fields_then rule.heads (counts rule.body ++ body_atoms rule.body) heads
-    (fields_then (counts rule.body) (body_atoms rule.body) numbers (rw c.as_slice-3.ensures at c.print_literals.ensures)))
+    (fields_then (counts rule.body) (body_atoms rule.body) numbers
+    (rw c.as_slice-3.ensures at c.print_literals.ensures)))

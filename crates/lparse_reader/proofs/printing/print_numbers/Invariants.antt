@@ -5,4 +5,6 @@ use Rattle.lparse_reader.proofs.TextWrites.{Wrote}
 use Rattle.lparse_reader.proofs.printing.print_numbers.Given as goal
 
 abbrev pub invariant-loop-number : goal.invariant-loop-number
-invariant-loop-number g l = Wrote g.K.Sink.written g.K.Sink.faults l.initial.sink l.sink (flat_map next_field (take l.number-index l.numbers))
+invariant-loop-number g l =
+    Wrote g.K.Sink.written g.K.Sink.faults l.initial.sink l.sink
+    (flat_map next_field (take l.number-index l.numbers))

@@ -9,7 +9,9 @@ pub returns-in_err-print_numbers : goal.returns-in_err-print_numbers
 returns-in_err-print_numbers g c =
     let rule = c.args.rule.now in
     let failed = rw c.as_slice.ensures at c.in_err-print_numbers.ensures in
-    fields_cut rule.heads (rule.bound ∷ (counts rule.body ++ (body_atoms rule.body ++ body_weights rule.body))) c.from_residual.ensures.0 failed
+    fields_cut rule.heads
+    (rule.bound ∷ (counts rule.body ++ (body_atoms rule.body ++ body_weights rule.body)))
+    c.from_residual.ensures.0 failed
 
 pub returns-in_err-print_number : goal.returns-in_err-print_number
 returns-in_err-print_number g c =
@@ -17,7 +19,8 @@ returns-in_err-print_number g c =
     let heads = rw c.as_slice.ensures at c.in_ok-print_numbers.ensures in
     let rest = counts rule.body ++ (body_atoms rule.body ++ body_weights rule.body) in
     fields_then rule.heads (rule.bound ∷ rest) heads
-    (writes_fault c.from_residual-in_err-print_number.ensures.0 (writes_longer (next_fields rest) c.in_err-print_number.ensures))
+    (writes_fault c.from_residual-in_err-print_number.ensures.0
+    (writes_longer (next_fields rest) c.in_err-print_number.ensures))
 
 pub returns-in_err-print_counts : goal.returns-in_err-print_counts
 returns-in_err-print_counts g c =
@@ -26,7 +29,8 @@ returns-in_err-print_counts g c =
     let failed = rw c.as_slice-2.ensures at c.in_err-print_counts.ensures in
     let rest = body_atoms rule.body ++ body_weights rule.body in
     fields_then rule.heads (rule.bound ∷ (counts rule.body ++ rest)) heads
-    (writes_then c.in_ok-print_number.ensures (fields_cut (counts rule.body) rest c.from_residual-in_err-print_counts.ensures.0 failed))
+    (writes_then c.in_ok-print_number.ensures
+    (fields_cut (counts rule.body) rest c.from_residual-in_err-print_counts.ensures.0 failed))
 
 pub returns-in_err-print_literals : goal.returns-in_err-print_literals
 returns-in_err-print_literals g c =
@@ -37,7 +41,8 @@ returns-in_err-print_literals g c =
     let rest = body_atoms rule.body ++ body_weights rule.body in
     fields_then rule.heads (rule.bound ∷ (counts rule.body ++ rest)) heads
     (writes_then c.in_ok-print_number.ensures (fields_then (counts rule.body) rest numbers
-    (fields_cut (body_atoms rule.body) (body_weights rule.body) c.from_residual-in_err-print_literals.ensures.0 failed)))
+    (fields_cut (body_atoms rule.body) (body_weights rule.body)
+    c.from_residual-in_err-print_literals.ensures.0 failed)))
 
 pub returns : goal.returns
 returns g c =
@@ -48,4 +53,5 @@ returns g c =
     let rest = body_atoms rule.body ++ body_weights rule.body in
     fields_then rule.heads (rule.bound ∷ (counts rule.body ++ rest)) heads
     (writes_then c.in_ok-print_number.ensures (fields_then (counts rule.body) rest numbers
-    (fields_then (body_atoms rule.body) (body_weights rule.body) atoms (rw c.as_slice-4.ensures at c.print_weights.ensures))))
+    (fields_then (body_atoms rule.body) (body_weights rule.body) atoms
+    (rw c.as_slice-4.ensures at c.print_weights.ensures))))

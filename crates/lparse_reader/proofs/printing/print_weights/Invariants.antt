@@ -4,4 +4,6 @@ use Rattle.lparse_reader.proofs.TextWrites.{Wrote, weight_field}
 use Rattle.lparse_reader.proofs.printing.print_weights.Given as goal
 
 abbrev pub invariant-loop-part : goal.invariant-loop-part
-invariant-loop-part g l = Wrote g.K.Sink.written g.K.Sink.faults l.initial.sink l.sink (flat_map weight_field (take l.part-index l.body))
+invariant-loop-part g l =
+    Wrote g.K.Sink.written g.K.Sink.faults l.initial.sink l.sink
+    (flat_map weight_field (take l.part-index l.body))

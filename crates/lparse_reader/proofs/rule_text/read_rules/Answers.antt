@@ -9,22 +9,31 @@ pub returns-in_err-rule : goal.returns-in_err-rule
 returns-in_err-rule c =
     let bytes = c.args.bytes.now in
     let stop = err_from_is_err_and c.from_residual.result c.from_residual.ensures.1 in
-    rw (stop.1, stop.2) (until_stops c.in_err-rule.field-0.0 rule_or_end_at c.loop.rules (length bytes) c.loop.counter c.loop.rest.now
-    (until_end_at rule_or_end_at (length bytes) bytes) c.loop-test.true c.in_err-rule.ensures c.loop.invariant)
+    rw (stop.1, stop.2)
+    (until_stops c.in_err-rule.field-0.0 rule_or_end_at c.loop.rules (length bytes)
+    c.loop.counter c.loop.rest.now
+    (until_end_at rule_or_end_at (length bytes) bytes) c.loop-test.true c.in_err-rule.ensures
+    c.loop.invariant)
 
 pub returns-in-None : goal.returns-in-None
 returns-in-None c =
     let bytes = c.args.bytes.now in
-    until_done rule_or_end_at c.loop.rules (length bytes) c.loop.counter c.loop.rest.now c.in_ok-rule.after.now
-    (until_end_at rule_or_end_at (length bytes) bytes) c.loop-test.true (rw (← c.in-None.is) c.in_ok-rule.ensures) c.loop.invariant
+    until_done rule_or_end_at c.loop.rules (length bytes) c.loop.counter c.loop.rest.now
+    c.in_ok-rule.after.now
+    (until_end_at rule_or_end_at (length bytes) bytes) c.loop-test.true
+    (rw (← c.in-None.is) c.in_ok-rule.ensures) c.loop.invariant
 
 pub loop-preserved : goal.loop-preserved
 loop-preserved c =
     let bytes = c.args.bytes.now in
-    rw c.in_ok-push-in-Some.ensures.ok (until_goes_on rule_or_end_at c.loop.rules (length bytes) c.loop.counter c.loop.rest.now c.in-Some.rule c.in_ok-rule.after.now
-    (until_end_at rule_or_end_at (length bytes) bytes) c.loop-test.true (rw (← c.in-Some.is) c.in_ok-rule.ensures) c.loop.invariant)
+    rw c.in_ok-push-in-Some.ensures.ok
+    (until_goes_on rule_or_end_at c.loop.rules (length bytes) c.loop.counter c.loop.rest.now
+    c.in-Some.rule c.in_ok-rule.after.now
+    (until_end_at rule_or_end_at (length bytes) bytes) c.loop-test.true
+    (rw (← c.in-Some.is) c.in_ok-rule.ensures) c.loop.invariant)
 
 pub returns : goal.returns
 returns c =
     let bytes = c.args.bytes.now in
-    until_out rule_or_end_at c.loop.rules (length bytes) c.loop.counter c.loop.rest.now (until_end_at rule_or_end_at (length bytes) bytes) c.loop-test.false c.loop.invariant
+    until_out rule_or_end_at c.loop.rules (length bytes) c.loop.counter c.loop.rest.now
+    (until_end_at rule_or_end_at (length bytes) bytes) c.loop-test.false c.loop.invariant

@@ -10,16 +10,23 @@ pub returns-then-not-has : goal.returns-then-not-has
 returns-then-not-has c =
     let no : c.has.result ≡ false = search rules in (
       λ wrong. absurd (false≢true wrong),
-      λ all. absurd (not_all_at (λ lit. Contains c.args.known.now (negation lit)) c.args.clause.now c.loop-lit.lit-index (record { 0 = 0 }) c.loop-lit-test.true
-          (λ here. iff_false c.has.ensures no (subst (Contains c.args.known.now) (sym c.negated.ensures) here)) all),
+      λ all. absurd
+          (not_all_at (λ lit. Contains c.args.known.now (negation lit)) c.args.clause.now
+          c.loop-lit.lit-index (record { 0 = 0 }) c.loop-lit-test.true
+          (λ here. iff_false c.has.ensures no
+          (subst (Contains c.args.known.now) (sym c.negated.ensures) here)) all),
     )
 
 pub loop-lit-preserved : goal.loop-lit-preserved
 loop-lit-preserved c =
     let yes : c.has.result ≡ true = search rules in
-    All-more (λ lit. Contains c.args.known.now (negation lit)) c.args.clause.now c.loop-lit.lit-index (record { 0 = 0 }) c.loop-lit-test.true c.loop-lit.invariant
+    All-more (λ lit. Contains c.args.known.now (negation lit)) c.args.clause.now
+    c.loop-lit.lit-index (record { 0 = 0 }) c.loop-lit-test.true c.loop-lit.invariant
     (subst (Contains c.args.known.now) c.negated.ensures (c.has.ensures.0 yes))
 
 pub returns : goal.returns
-returns c =
-    (λ t. all_read (λ lit. Contains c.args.known.now (negation lit)) c.args.clause.now c.loop-lit.lit-index c.loop-lit-test.false c.loop-lit.invariant, λ all. refl)
+returns c = (
+  λ t. all_read (λ lit. Contains c.args.known.now (negation lit)) c.args.clause.now
+      c.loop-lit.lit-index c.loop-lit-test.false c.loop-lit.invariant,
+  λ all. refl,
+)

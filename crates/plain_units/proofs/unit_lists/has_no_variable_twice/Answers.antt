@@ -10,13 +10,20 @@ returns-then-has_variable c =
     let found : c.has_variable.result ≡ true = search rules in
     let lit = get_or c.args.clause.now c.loop-at.at (record { 0 = 0 }) in (
       λ wrong. absurd (false≢true wrong),
-      λ once. absurd (not_once c.args.clause.now c.loop-at.at lit c.loop-at-test.true (get_or_default c.args.clause.now c.loop-at.at (record { 0 = 0 }) lit c.loop-at-test.true)
-          (subst (λ rest. HasVariable rest lit) (take_rest c.args.clause.now (c.loop-at.at + 1)) (c.has_variable.ensures.0 found)) once),
+      λ once. absurd
+          (not_once c.args.clause.now c.loop-at.at lit c.loop-at-test.true
+          (get_or_default c.args.clause.now c.loop-at.at (record { 0 = 0 }) lit
+          c.loop-at-test.true)
+          (subst (λ rest. HasVariable rest lit) (take_rest c.args.clause.now (c.loop-at.at + 1))
+          (c.has_variable.ensures.0 found)) once),
     )
 
 pub loop-at-preserved : goal.loop-at-preserved
 loop-at-preserved c =
     let none : c.has_variable.result ≡ false = search rules in
     let lit = get_or c.args.clause.now c.loop-at.at (record { 0 = 0 }) in
-    once_more c.args.clause.now c.loop-at.at lit c.loop-at-test.true (get_or_default c.args.clause.now c.loop-at.at (record { 0 = 0 }) lit c.loop-at-test.true)
-    (λ has. iff_false c.has_variable.ensures none (subst (λ rest. HasVariable rest lit) (sym (take_rest c.args.clause.now (c.loop-at.at + 1))) has)) c.loop-at.invariant
+    once_more c.args.clause.now c.loop-at.at lit c.loop-at-test.true
+    (get_or_default c.args.clause.now c.loop-at.at (record { 0 = 0 }) lit c.loop-at-test.true)
+    (λ has. iff_false c.has_variable.ensures none
+    (subst (λ rest. HasVariable rest lit) (sym (take_rest c.args.clause.now (c.loop-at.at + 1)))
+    has)) c.loop-at.invariant

@@ -9,5 +9,8 @@ returns-in_err-write_fields g c =
 
 pub returns : goal.returns
 returns g c =
-    writes_same (sym (ap (λ (text : List ℕ). codes "REFUSED" ++ fields (c.args.line ∷ []) ++ field text) (sym c.text_of.ensures)))
+    writes_same
+    (sym
+    (ap (λ (text : List ℕ). codes "REFUSED" ++ fields (c.args.line ∷ []) ++ field text)
+    (sym c.text_of.ensures)))
     (writes_then c.in_ok-write_fields.ensures c.write_field.ensures)

@@ -10,6 +10,10 @@ returns-in_err-write_fields g c =
 
 pub returns : goal.returns
 returns g c =
-    writes_same (sym (ap (λ (name : List ℕ). c.args.word.now ++ fields (c.args.cand ∷ c.args.number ∷ []) ++ field name)
-    (name_at c.args.names.now c.args.cand c.get-named.result.now c.as_slice.result.now c.get-named.ensures c.as_slice.ensures)))
+    writes_same
+    (sym
+    (ap (λ (name : List ℕ). c.args.word.now ++ fields (c.args.cand ∷ c.args.number ∷ [])
+    ++ field name)
+    (name_at c.args.names.now c.args.cand c.get-named.result.now c.as_slice.result.now
+    c.get-named.ensures c.as_slice.ensures)))
     (writes_then c.in_ok-write_fields.ensures c.write_field.ensures)

@@ -11,7 +11,8 @@ use Rattle.rule_normaliser.proofs.merging.merged.Goals as goal
 
 pub joined-requires-clause-order : goal.joined-requires-clause-order
 joined-requires-clause-order c =
-    subst (IsNonDecreasingBy (λ (one : Weighted). rank one.lit)) (sym c.deref.ensures.value) c.in_ok-items.ensures.order
+    subst (IsNonDecreasingBy (λ (one : Weighted). rank one.lit)) (sym c.deref.ensures.value)
+    c.in_ok-items.ensures.order
 
 pub joined-requires-clause-short : goal.joined-requires-clause-short
 joined-requires-clause-short c =
@@ -21,7 +22,8 @@ joined-requires-clause-short c =
 pub joined-requires-clause-weights : goal.joined-requires-clause-weights
 joined-requires-clause-weights c =
     let Small = λ (one : Weighted). IsNumber one.weight in
-    subst (λ (items : List Weighted). All (λ one. IsNumber one.weight) items) (sym c.deref.ensures.value)
+    subst (λ (items : List Weighted). All (λ one. IsNumber one.weight) items)
+    (sym c.deref.ensures.value)
     (All-permutation Small _ _ c.in_ok-items.ensures.same c.requires.weights)
 
 pub returns : goal.returns

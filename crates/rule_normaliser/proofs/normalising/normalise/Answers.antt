@@ -26,10 +26,17 @@ returns-then-count-gt-MOST_VARIABLES-clause-refused c =
       names = refl;
       must = refl;
       must_not = refl;
-      rules = subst (AreNumbered normal.bodies normal.rules) c.as_slice.ensures c.in_ok-numbered.ensures;
+      rules =
+          subst (AreNumbered normal.bodies normal.rules) c.as_slice.ensures
+          c.in_ok-numbered.ensures;
     } in
     let count : variables normal ≡ c.variable_count-count.result =
-    omega (arith, c.variable_count-count.ensures, length-map numbered.keys.keys body_of, c.len.ensures.len) in
+    omega (
+      arith,
+      c.variable_count-count.ensures,
+      length-map numbered.keys.keys body_of,
+      c.len.ensures.len,
+    ) in
     ((normal, form, count), c.if-count-gt-MOST_VARIABLES.true)
 
 pub returns-clause-bodies : goal.returns-clause-bodies

@@ -7,6 +7,7 @@ pub returns : goal.returns
 returns c =
     Numbers-insert _
     (λ one two.
-    BodyKey-Decides one two _ (slice_eq-Decides KeyPart-Decides one.parts.items two.parts.items _ refl))
+    BodyKey-Decides one two _
+    (slice_eq-Decides KeyPart-Decides one.parts.items two.parts.items _ refl))
     c.args.keys.now.keys c.insert_full.new.self.keys c.args.key c.in_ok-number.number
     (c.in_ok-number.ensures).keys (c.in_ok-number.ensures).stored

@@ -6,4 +6,6 @@ returns-in_err-write_settled g c =
     writes_fault c.from_residual.ensures.0 (writes_longer _ c.in_err-write_settled.ensures)
 
 pub returns : goal.returns
-returns g c = writes_then c.in_ok-write_settled.ensures (rw (c.count_in_set-size.ensures, c.as_slice.ensures) at c.write_end.ensures)
+returns g c =
+    writes_then c.in_ok-write_settled.ensures
+    (rw (c.count_in_set-size.ensures, c.as_slice.ensures) at c.write_end.ensures)

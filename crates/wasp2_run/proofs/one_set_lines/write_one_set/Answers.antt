@@ -6,7 +6,8 @@ use Rattle.wasp2_run.proofs.one_set_lines.write_one_set.Goals as goal
 pub returns-in_err-set : goal.returns-in_err-set
 returns-in_err-set g c =
     writes_fault c.from_residual.ensures.0
-    (writes_same (sym (one_set_text c.args.names.now c.args.set)) (writes_longer _ c.in_err-set.ensures.written))
+    (writes_same (sym (one_set_text c.args.names.now c.args.set))
+    (writes_longer _ c.in_err-set.ensures.written))
 
 pub returns : goal.returns
 returns g c =

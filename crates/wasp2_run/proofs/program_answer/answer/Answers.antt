@@ -12,7 +12,8 @@ returns-in-Some g c = ends_ok 3 (not_yet c.in-Some.ensures) c.in_ok-refuse.ensur
 
 pub returns-in_err-tell_no_memory-in-Err : goal.returns-in_err-tell_no_memory-in-Err
 returns-in_err-tell_no_memory-in-Err g c =
-    ends_fault 7 c.from_residual-in_err-tell_no_memory-in-Err.ensures.0 (answers_no_memory c.args.program.now)
+    ends_fault 7 c.from_residual-in_err-tell_no_memory-in-Err.ensures.0
+    (answers_no_memory c.args.program.now)
     c.in_err-tell_no_memory-in-Err.ensures
 
 pub returns-in_ok-tell_no_memory-in-Err : goal.returns-in_ok-tell_no_memory-in-Err

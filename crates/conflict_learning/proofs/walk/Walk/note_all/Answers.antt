@@ -17,10 +17,23 @@ loop-lit-preserved c =
     rw (take_more c.args.lits.now c.loop-lit.lit-index (record { 0 = 0 }) c.loop-lit-test.true)
     (elim c.if-eq.branch [
       | then-eq+in_ok-note w ↦
-          subst (λ walk. NotesAll c.args.trail.now c.args.self.now walk (take c.loop-lit.lit-index c.args.lits.now ++ get_or c.args.lits.now c.loop-lit.lit-index (record { 0 = 0 }) ∷ [])) (sym w.self-is)
-          (lemma.notes_one c.args.trail.now c.args.self.now c.loop-lit.self w.note.new.self (take c.loop-lit.lit-index c.args.lits.now) _ c.loop-lit.invariant w.in_ok-note.ensures)
+          subst
+          (λ walk. NotesAll c.args.trail.now c.args.self.now walk
+          (take c.loop-lit.lit-index c.args.lits.now
+          ++ get_or c.args.lits.now c.loop-lit.lit-index (record { 0 = 0 }) ∷ []))
+          (sym w.self-is)
+          (lemma.notes_one c.args.trail.now c.args.self.now c.loop-lit.self w.note.new.self
+          (take c.loop-lit.lit-index c.args.lits.now) _ c.loop-lit.invariant
+          w.in_ok-note.ensures)
       | else-eq w ↦
-          subst (λ walk. NotesAll c.args.trail.now c.args.self.now walk (take c.loop-lit.lit-index c.args.lits.now ++ get_or c.args.lits.now c.loop-lit.lit-index (record { 0 = 0 }) ∷ [])) (sym w.self-is)
-          (lemma.notes_skip c.args.trail.now c.args.self.now c.loop-lit.self (take c.loop-lit.lit-index c.args.lits.now) _ c.loop-lit.invariant
-          (λ wrong. false≢true (sym w.if-eq.false ∙ c.eq.ensures ∙ ap (λ v. sameb the_type v No) (c.value.ensures ∙ wrong))))
+          subst
+          (λ walk. NotesAll c.args.trail.now c.args.self.now walk
+          (take c.loop-lit.lit-index c.args.lits.now
+          ++ get_or c.args.lits.now c.loop-lit.lit-index (record { 0 = 0 }) ∷ []))
+          (sym w.self-is)
+          (lemma.notes_skip c.args.trail.now c.args.self.now c.loop-lit.self
+          (take c.loop-lit.lit-index c.args.lits.now) _ c.loop-lit.invariant
+          (λ wrong. false≢true
+          (sym w.if-eq.false ∙ c.eq.ensures
+          ∙ ap (λ v. sameb the_type v No) (c.value.ensures ∙ wrong))))
     ])

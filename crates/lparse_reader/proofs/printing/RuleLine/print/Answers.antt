@@ -8,12 +8,16 @@ pub returns-in_err-write_number : goal.returns-in_err-write_number
 returns-in_err-write_number g c =
     let rule = c.args.self.now in
     let failed = rw c.number_of_kind.ensures at c.in_err-write_number.ensures in
-    writes_fault c.from_residual.ensures.0 (writes_longer (codes "\n") (writes_longer (next_fields (numbers_of_kind rule.kind rule.heads rule.bound rule.body)) failed))
+    writes_fault c.from_residual.ensures.0
+    (writes_longer (codes "\n")
+    (writes_longer (next_fields (numbers_of_kind rule.kind rule.heads rule.bound rule.body))
+    failed))
 
 pub returns-in_err-print_fields : goal.returns-in_err-print_fields
 returns-in_err-print_fields g c =
     let kind = rw c.number_of_kind.ensures at c.in_ok-write_number.ensures in
-    writes_fault c.from_residual-in_err-print_fields.ensures.0 (writes_longer (codes "\n") (writes_then kind c.in_err-print_fields.ensures))
+    writes_fault c.from_residual-in_err-print_fields.ensures.0
+    (writes_longer (codes "\n") (writes_then kind c.in_err-print_fields.ensures))
 
 pub returns : goal.returns
 returns g c =

@@ -11,15 +11,20 @@ pub turns-init : goal.turns-init
 turns-init c = record {
   ready = c.go_back.ensures.ready;
   on = c.go_back.ensures.on c.args.assumed.now;
-  first = first_at_start c.args.assumed.now c.go_back.new.self.trail c.go_back.ensures.trail c.go_back.ensures.level;
-  settled = settled_at_start c.go_back.new.self.store c.go_back.new.self.trail.steps c.go_back.ensures.level;
+  first =
+      first_at_start c.args.assumed.now c.go_back.new.self.trail c.go_back.ensures.trail
+      c.go_back.ensures.level;
+  settled =
+      settled_at_start c.go_back.new.self.store c.go_back.new.self.trail.steps
+      c.go_back.ensures.level;
 }
 
 pub turns-preserved : goal.turns-preserved
 turns-preserved c = record {
   ready = c.in_ok-answer.ensures.ready;
   on =
-      goes_on c.args.assumed.now c.args.self.now.store c.turns.self.store c.turn.new.self.store c.args.self.now.trail c.turns.self.trail c.turn.new.self.trail
+      goes_on c.args.assumed.now c.args.self.now.store c.turns.self.store c.turn.new.self.store
+      c.args.self.now.trail c.turns.self.trail c.turn.new.self.trail
       c.turns.invariant.on c.in_ok-answer.ensures.on;
   first = c.in_ok-answer.ensures.on.first c.turns.invariant.first;
   settled = c.in_ok-answer.ensures.on.settled c.turns.invariant.settled;
@@ -27,16 +32,24 @@ turns-preserved c = record {
 
 pub returns-in-Some-clause-answer : goal.returns-in-Some-clause-answer
 returns-in-Some-clause-answer c =
-    answer_before c.args.self.now.store c.turns.self.store c.args.assumed.now c.turn.new.self.trail c.in-Some.answer c.turns.invariant.on.same
-    (subst (λ found. IfSome found (IsSearchAnswer c.turns.self.store c.args.assumed.now c.turn.new.self.trail)) c.in-Some.is c.in_ok-answer.ensures.answer)
+    answer_before c.args.self.now.store c.turns.self.store c.args.assumed.now c.turn.new.self.trail
+    c.in-Some.answer c.turns.invariant.on.same
+    (subst
+    (λ found. IfSome found
+    (IsSearchAnswer c.turns.self.store c.args.assumed.now c.turn.new.self.trail))
+    c.in-Some.is c.in_ok-answer.ensures.answer)
 
 pub returns-in-Some-clause-units : goal.returns-in-Some-clause-units
 returns-in-Some-clause-units c =
-    (goes_on c.args.assumed.now c.args.self.now.store c.turns.self.store c.turn.new.self.store c.args.self.now.trail c.turns.self.trail c.turn.new.self.trail
+    (goes_on c.args.assumed.now c.args.self.now.store c.turns.self.store c.turn.new.self.store
+    c.args.self.now.trail c.turns.self.trail c.turn.new.self.trail
     c.turns.invariant.on c.in_ok-answer.ensures.on).units
 
 pub turns-smaller : goal.turns-smaller
 turns-smaller c =
-    fewer_turns c.saturating_add-full.result c.turns.self.store c.turn.new.self.store c.turns.self.trail c.turn.new.self.trail
-    (omega (arith, c.turns-test.true, c.len-in-turns.ensures)) c.know_trail.ensures c.in_ok-answer.ensures.on.vars
-    (without_answer c.in_ok-answer.field-0 c.in_ok-answer.ensures.nearer (λ x is. c.in_default.not-Some x is))
+    fewer_turns c.saturating_add-full.result c.turns.self.store c.turn.new.self.store
+    c.turns.self.trail c.turn.new.self.trail
+    (omega (arith, c.turns-test.true, c.len-in-turns.ensures)) c.know_trail.ensures
+    c.in_ok-answer.ensures.on.vars
+    (without_answer c.in_ok-answer.field-0 c.in_ok-answer.ensures.nearer
+    (λ x is. c.in_default.not-Some x is))

@@ -13,4 +13,5 @@ invariant-turns l = record {
 }
 
 abbrev pub decreases-turns : goal.decreases-turns
-decreases-turns l = turns_left l.full (length l.self.store) l.self.trail.vars (length l.self.trail.steps)
+decreases-turns l =
+    turns_left l.full (length l.self.store) l.self.trail.vars (length l.self.trail.steps)
