@@ -30,8 +30,7 @@ abbrev pub AppendedPrefix : Option (List ℕ) → Option (List ℕ) → List ℕ
 AppendedPrefix old new bytes = (n : ℕ) × Appended old new (take n bytes)
 
 -- What a call that writes these bytes did to a sink: at Ok it wrote them all, else a prefix of
--- them.
--- It fails only where the sink's count of faults rose.
+-- them. It fails only where the sink's count of faults rose.
 pub record Writes {K T E : Type 0} (written : K → Option (List ℕ)) (faults : K → ℕ) (old new : K)
     (bytes : List ℕ) (result : Result T E) : Type 0 where
   pub all : OnOk result (Appended (written old) (written new) bytes)

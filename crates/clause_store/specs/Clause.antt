@@ -1,6 +1,5 @@
 -- Literals and clauses, and when an assignment makes them true. An assignment has a truth value for
--- each
--- variable; the one at place 0 belongs to no variable, and past its end everything is false.
+-- each variable; the one at place 0 belongs to no variable, and past its end everything is false.
 use Rattle.std.specs.Prelude.{◌≢◌, ◌≤◌, ◌+◌, ◌-◌, ◌/◌, ◌%◌, ◌==◌, ℕ, Bool, false, not}
 use Rattle.std.specs.Prelude.{if◌then◌else◌, List, All, AllPairs, Any, Contains, slice_index_or}
 use Rattle.std.specs.Prelude.{IsTrue}

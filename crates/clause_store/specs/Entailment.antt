@@ -38,8 +38,7 @@ abbrev pub others : List Lit → Lit → List Lit
 others clause lit = filter (λ other. not (other.0 == lit.0)) clause
 
 -- unit propagation already does what the clause does: from the negations of all its literals but
--- any one
--- it refutes or gives that one
+-- any one it refutes or gives that one
 abbrev pub Absorbs : List (List Lit) → List Lit → Type 0
 Absorbs clauses clause =
     All

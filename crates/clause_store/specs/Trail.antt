@@ -59,16 +59,14 @@ RisesFrom level (step ∷ rest) =
     (step.level ≡ next_level level step.reason) × RisesFrom step.level rest
 
 -- what is true of every trail: each variable is one of 1 to `vars` and is assigned once, and the
--- levels
--- count the decisions
+-- levels count the decisions
 pub record IsTrail (trail : Assigned) : Type 0 where
   pub over : All (λ step. IsOver trail.vars step.lit) trail.steps
   pub once : AllPairs (λ one two. variable one.lit ≢ variable two.lit) trail.steps
   pub levels : RisesFrom 0 trail.steps
 
 -- a clause forces a literal: the reason names it, it has the literal, and its other literals are
--- false
--- by the assignments before
+-- false by the assignments before
 pub record IsReasonFor (clauses : List (List Lit)) (before : List Step) (lit : Lit)
     (why : ClauseRef) : Type 0 where
   pub clause : List Lit

@@ -1,6 +1,5 @@
 // A clause keeps up to four literals in place. One that holds nothing has no vector, so that
-// opening
-// it takes no memory and no allocator.
+// opening it takes no memory and no allocator.
 ghost use Rattle.std.specs.Prelude.{◌≡◌, [], ◌∷◌, ◌++◌, ◌<◌, length, take, slice_get, slice_set};
 ghost use Rattle.std.specs.Prelude.{Some, OnOk, OnErr, IfOk};
 

@@ -1,6 +1,5 @@
 // The literals of all clauses stand in one array, and each clause is a span of it. What a failed
-// `add`
-// left in the array belongs to no span.
+// `add` left in the array belongs to no span.
 ghost use Rattle.std.specs.Prelude.{◌≡◌, ◌<◌, [], ◌∷◌, ◌++◌, length, slice_get, Some, IfOk, OnOk};
 ghost use Rattle.std.specs.Prelude.{OnErr};
 ghost use Rattle.clause_store.specs.Clause.{IsClause};

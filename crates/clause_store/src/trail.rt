@@ -1,7 +1,6 @@
 // The assignments in order, and beside them two arrays that answer at once: the place of each
 // variable's assignment and the value of each literal. Each variable is assigned at most once, so
-// the
-// room that `open` reserves for one assignment a variable always suffices.
+// the room that `open` reserves for one assignment a variable always suffices.
 ghost use Rattle.std.specs.Prelude.{◌≡◌, ◌<◌, ◌≤◌, ◌^◌, [], ◌∷◌, ◌++◌, ◌+◌, length, Some, None};
 ghost use Rattle.std.specs.Prelude.{IfOk, IsTrue, ◌↔◌};
 ghost use Rattle.clause_store.specs.Clause.{IsOver};

@@ -1,6 +1,5 @@
 -- What propagation gives on the way: literals of level 0, noted literals, and the forced literal of
--- a
--- reason whose other literals were noted.
+-- a reason whose other literals were noted.
 use Rattle.std.proofs.Common.{◌≡◌, ◌≢◌, ℕ, zero, suc, ◌+◌, ◌<◌, ◌≤◌, Bool, true, false, eqb, List}
 use Rattle.std.proofs.Common.{[], ◌∷◌, ◌++◌, length, take, drop, get_or, Option, Some, None, refl}
 use Rattle.std.proofs.Common.{sym, ap, ◌∙◌, subst, inl, inr, arith}

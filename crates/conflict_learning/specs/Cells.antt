@@ -50,8 +50,7 @@ pub record AddsDecisions (clauses : List (List Lit)) (steps : List Step) (failed
   pub alone : level_at steps failed ≡ 0 → decisions ≡ []
 
 -- a blank was added for each assignment from `last` back to one at `low`, and all earlier ones are
--- of
--- level 0
+-- of level 0
 pub record AddsBlanks (trail : Assigned) (last : ℕ) (old new : List Lit) : Type 0 where
   pub is_trail : IsTrail trail
   pub low : ℕ

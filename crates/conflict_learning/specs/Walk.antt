@@ -1,6 +1,5 @@
 -- The walk back over a trail: what is true on the way, and what each step does. No public clause
--- cites
--- this module.
+-- cites this module.
 use Rattle.std.specs.Prelude.{◌≡◌, ◌≢◌, ◌<◌, ◌≤◌, ◌^◌, ℕ, Bool, List, [], ◌∷◌, ◌++◌, length, take}
 use Rattle.std.specs.Prelude.{All, Any, Contains, IsTrue, count_by, slice_get, Some}
 use Rattle.clause_store.specs.declared.literal.Lit.{Lit}

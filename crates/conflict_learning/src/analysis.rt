@@ -1,6 +1,5 @@
 // The analysis of a conflict: from the clause that is false, the last literal of the present level
-// is
-// replaced by the other literals of its reason, until one literal of that level is left.
+// is replaced by the other literals of its reason, until one literal of that level is left.
 ghost use Rattle.std.specs.Prelude.{◌≡◌, ◌<◌, All, OnOk};
 ghost use Rattle.clause_store.specs.Clause.{HasNoVariableTwice, IsOver};
 ghost use Rattle.clause_store.specs.Entailment.{Follows, Refutes, negations, others};
@@ -58,8 +57,7 @@ pub fn analyse(
 }
 
 /// The greatest level of the literals, or 0. A search goes back to it before it learns from a
-/// clause
-/// that is false.
+/// clause that is false.
 pub fn greatest_level(trail: &Trail, lits: &[Lit]) -> u32
     requires { All (IsOver trail.now.vars) lits.now }
     ensures { result ≡ greatest_level trail.now.steps lits.now }

@@ -1,6 +1,5 @@
 // Marks on variables. The table of a walk is kept for the next one, and each walk takes its own
-// marks
-// away again. So a walk pays for what it visits, and not for each variable.
+// marks away again. So a walk pays for what it visits, and not for each variable.
 ghost use Rattle.std.specs.Prelude.{◌≡◌, ◌<◌, ◌≤◌, [], ℕ, All, false, length, IfOk};
 ghost use Rattle.clause_store.specs.Clause.{variable};
 ghost use Rattle.conflict_learning.specs.Marks.{HasNoMark, IsMarked, is_marked};
@@ -36,8 +35,7 @@ impl Marks {
     }
 
     /// Takes the table out, with room for the variables up to `vars`. Only a first table and a
-    /// longer
-    /// one take memory. After want of memory there is no table.
+    /// longer one take memory. After want of memory there is no table.
     pub fn take(&mut self, alloc: Global, vars: u32) -> Result<Vec<bool>, NoMemory>
         ensures sized { IfOk result (λ table. vars < length table.items) }
         ensures unmarked { IfOk result (λ table. HasNoMark table.items) }

@@ -27,8 +27,7 @@ fn learn_at_two_levels(alloc: Global, learned: &mut Learned) -> Result<(), NoMem
 }
 
 /// Learns that variable 2 is false. The decision was on variable 1, but all implications pass
-/// through
-/// variable 2.
+/// through variable 2.
 fn learn_where_implications_meet(alloc: Global, learned: &mut Learned) -> Result<(), NoMemory> {
     let mut store = Store::open();
     let meeting = store.add(alloc, &[Lit(3), Lit(4)])?;

@@ -1,10 +1,7 @@
 // The walk back over a trail. The clause so far has the noted literals of lower levels and, for
-// each
-// open assignment, the literal that it made false. An assignment is open where its variable is
-// marked
-// and it is of the present level and not passed yet. The table of marks and the clause are lent by
-// who
-// walks, and given back at the end.
+// each open assignment, the literal that it made false. An assignment is open where its variable is
+// marked and it is of the present level and not passed yet. The table of marks and the clause are
+// lent by who walks, and given back at the end.
 ghost use Rattle.std.specs.Prelude.{◌≡◌, ◌≢◌, ◌<◌, ◌∷◌, [], ◌++◌, ◌^◌, ◌↔◌, ℕ, All, List, IsTrue};
 ghost use Rattle.std.specs.Prelude.{take, length, OnOk, IfOk};
 ghost use Rattle.clause_store.specs.Clause.{variable, IsOver};
@@ -113,8 +110,7 @@ impl Walk {
     }
 
     /// Replaces open literals by those of their reasons, from the last one on, until one is left.
-    /// That
-    /// one is the answer.
+    /// That one is the answer.
     pub fn resolve(&mut self, alloc: Global, store: &Store, trail: &Trail) -> Result<Lit, NoMemory>
         requires of_store { IsTrailOf trail.now.steps store.now }
         requires under_way { IsUnderWay trail.now self.old }
@@ -131,8 +127,7 @@ impl Walk {
     }
 
     /// The noted literals of lower levels and one literal more, and the table with no mark set.
-    /// Nothing
-    /// may be open any more.
+    /// Nothing may be open any more.
     pub fn finish(
         mut self,
         alloc: Global,

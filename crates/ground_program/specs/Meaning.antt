@@ -1,7 +1,6 @@
 -- What a program means: its answer sets and consequences, after Gelfond and Lifschitz, with weights
--- and
--- choices after Simons, Niemelä and Soininen. An atom set has a truth value for each position from
--- 0.
+-- and choices after Simons, Niemelä and Soininen. An atom set has a truth value for each position
+-- from 0.
 use Rattle.std.specs.Prelude.{◌≡◌, ◌≢◌, ◌≤◌, ◌+◌, ℕ, Bool, false, not, if◌then◌else◌, List, length}
 use Rattle.std.specs.Prelude.{All, Any, Some, slice_get, slice_index_or, sum_by, IsTrue}
 use Rattle.ground_program.specs.declared.program.Kind.{Kind}

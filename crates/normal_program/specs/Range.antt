@@ -8,8 +8,7 @@ use Rattle.normal_program.specs.Normal.{variables}
 use Rattle.normal_program.specs.Loop.{IsAtomOf}
 
 -- every atom that a normal form names is one of its atoms, heads fit the kinds of rules, every
--- number is that of a body,
--- and the variables are few
+-- number is that of a body, and the variables are few
 pub record IsInRange (normal : Normal) : Type 0 where
   pub parts : All (λ body. All (λ part. IsAtomOf normal part.lit.atom) body.parts) normal.bodies
   pub heads : All (λ rule. All (IsAtomOf normal) rule.heads) normal.rules

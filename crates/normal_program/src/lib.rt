@@ -1,6 +1,5 @@
 //! The words of the search: normal forms of programs, what their bodies and rules mean, base
-//! clauses,
-//! loop clauses and spent tests.
+//! clauses, loop clauses and spent tests.
 #![tactic(auto)]
 
 mod laws;

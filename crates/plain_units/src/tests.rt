@@ -1,6 +1,5 @@
 // Small lists of clauses whose closures and units are known. Literal 2 says that variable 1 is
-// true,
-// literal 3 that it is false, and so on.
+// true, literal 3 that it is false, and so on.
 use crate::{absorbs, are_units, closure, refutes};
 use clause_store::{Clause, Lit, NoMemory, Units};
 use std::alloc::Global;

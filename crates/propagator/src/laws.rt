@@ -1,6 +1,5 @@
 // The laws of readiness, of propagation, of reasons and of the fixpoint, for the crates above. They
-// do
-// nothing when they run.
+// do nothing when they run.
 ghost use Rattle.propagator.specs.Laws.{ReadyWithMore, ReadyWithClause, ReadyWithAgain};
 ghost use Rattle.propagator.specs.Laws.{ReadyWithNext, ReadyAfterRewind};
 ghost use Rattle.propagator.specs.Laws.{ExtendingGoesOn, ReasonsHold};

@@ -1,6 +1,5 @@
 // The clauses that propagation goes over. As it goes over all of them each time, no assignment has
-// to
-// be followed between two calls.
+// to be followed between two calls.
 ghost use Rattle.std.specs.Prelude.{◌≡◌, ◌<◌, ◌^◌, [], length, IfOk, OnErr};
 ghost use Rattle.clause_store.specs.Clause.{AreOver};
 ghost use Rattle.clause_store.specs.Standing.{AreOn};

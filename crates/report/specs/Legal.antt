@@ -1,6 +1,5 @@
 -- Which lists of lines are legal reports on a program: each line is true and says something new,
--- judged by
--- the lines before it, and a verdict says how far the run came.
+-- judged by the lines before it, and a verdict says how far the run came.
 use Rattle.std.specs.Prelude.{◌≡◌, ◌≢◌, ◌≤◌, ◌+◌, ◌-◌, ◌↔◌, ◌⊎◌, ℕ, Bool, true, false, List, []}
 use Rattle.std.specs.Prelude.{◌∷◌, ◌++◌, Option, Some, None, length, take, map, count_by, All, Any}
 use Rattle.std.specs.Prelude.{Contains, slice_get, IfSome, ◌==◌, if◌then◌else◌}
@@ -126,8 +125,7 @@ pub record ShowsOpen (names : List Named) (mode : Mode) (before : List Line) (se
   pub shown : Shows names mode set cand
 
 -- ANSWER: the numbers count up from 1, the set is an answer set, and it is the first or shows an
--- open
--- candidate
+-- open candidate
 pub record IsLegalAnswer (program : Program) (mode : Mode) (before : List Line) (number : ℕ)
     (set : List Bool) : Type 0 where
   pub counted : number ≡ count_by is_answer before + 1
@@ -149,8 +147,7 @@ pub record IsLegalOut (program : Program) (mode : Mode) (before : List Line) (ca
   pub named : OutNames program.names mode before cand by
 
 -- PAIR: the sizes are those that the lines so far make, each candidate that a set shows is settled,
--- and the
--- PAIR line before had other sizes
+-- and the PAIR line before had other sizes
 pub record IsLegalSizes (program : Program) (mode : Mode) (before : List Line) (sizes : Extent) :
     Type 0 where
   pub lower : sizes.lower ≡ count_by is_in before
@@ -160,8 +157,8 @@ pub record IsLegalSizes (program : Program) (mode : Mode) (before : List Line) (
   pub news : last_of (all_sizes before) ≢ Some sizes
 
 -- WATCH: the number of consequences lies between the sizes. They don't leave those that this
--- watcher told
--- before, nor those of a PAIR line but the last, and the watcher's last line had other sizes
+-- watcher told before, nor those of a PAIR line but the last, and the watcher's last line had other
+-- sizes
 pub record IsLegalWatch (program : Program) (mode : Mode) (watch : ℕ) (before : List Line)
     (watcher : ℕ) (sizes : Extent) : Type 0 where
   pub known : IsWatcher watch watcher
@@ -223,8 +220,7 @@ pub record IsUnknown (budget : ℕ) (body tests : List Line) : Type 0 where
   pub test : tests ≡ Unknown budget ∷ []
 
 -- one OPEN line for each open candidate, ascending and at least one: an answer set was given, and
--- the
--- candidate's own test spent the budget
+-- the candidate's own test spent the budget
 pub record IsEachOpen (program : Program) (budget : ℕ) (body tests : List Line) : Type 0 where
   pub answered : 1 ≤ count_by is_answer body
   pub cands : List ℕ
@@ -255,8 +251,7 @@ IsLegalVerdict program watch budget body tests NoMemory = tests ≡ []
 IsLegalVerdict program watch budget body tests _ = ⊥
 
 -- a legal report of a run with so many watchers and so large a budget: lines that may begin one,
--- the lines of
--- spent tests, and a verdict
+-- the lines of spent tests, and a verdict
 pub record IsLegalReport (program : Program) (mode : Mode) (watch budget : ℕ) (lines : List Line) :
     Type 0 where
   pub body : List Line

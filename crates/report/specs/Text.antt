@@ -1,6 +1,5 @@
 -- The text of a report: numbers are decimal, a blank stands before each field, and each line ends
--- with a
--- line feed.
+-- with a line feed.
 use Rattle.std.specs.Prelude.{ℕ, ◌+◌, ◌-◌, Bool, true, false, List, [], ◌∷◌, ◌++◌, flat_map}
 use Rattle.std.specs.Prelude.{slice_get, codes, decimal, ⊤}
 use Rattle.std.specs.Option.{option_map_or}

@@ -1,6 +1,5 @@
 // Merged bodies as keys of an `IndexSet`. A key must have a hash. `AtomLit` and `List` have none,
-// so
-// a key holds the fields of its literals by themselves, and its parts in a plain vector.
+// so a key holds the fields of its literals by themselves, and its parts in a plain vector.
 ghost use Rattle.std.specs.Prelude.{◌≡◌, ◌↔◌, IsTrue, IfOk};
 ghost use Rattle.rule_normaliser.specs.Key.{part_of, body_of};
 

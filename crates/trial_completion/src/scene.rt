@@ -34,8 +34,7 @@ pub fn program_of(alloc: Global, text: &[u8]) -> Option<Program>
 }
 
 /// The normal form of a text. None is a text without a program or with too many variables, or want
-/// of
-/// memory.
+/// of memory.
 pub fn normal_of(alloc: Global, text: &[u8]) -> Option<Normal>
     ensures { IfSome result IsNormal }
 {

@@ -19,8 +19,7 @@ struct Case {
 // after the atoms, and the selectors those after the bodies.
 static CASES: [Case; 3] = [
     // The fact 2. Its body is empty, and the selectors are open. 2 alone is the answer set, so "1
-    // or
-    // not 2" is false in it.
+    // or not 2" is false in it.
     Case {
         text: b"1 2 0 0\n0\n2 a\n0\nB+\n0\nB-\n1\n0\n1\n",
         values: &[

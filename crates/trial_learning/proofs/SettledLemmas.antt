@@ -1,6 +1,5 @@
 -- Where propagation had nothing left to do at the levels below, a learned clause is a unit at the
--- level to
--- which it goes back, so the clauses before don't absorb it.
+-- level to which it goes back, so the clauses before don't absorb it.
 use Rattle.std.proofs.Common.{◌≡◌, ◌≢◌, ℕ, ◌+◌, ◌<◌, ◌≤◌, max, not, List, [], ◌∷◌, ◌++◌, sym, ap}
 use Rattle.std.proofs.Common.{◌∙◌, subst, Option, Some, None, inl, inr, arith}
 use Rattle.std.specs.Prelude.{◌==◌, All, Contains, IsSomeAnd, nat_le, unwrap_or}

@@ -47,8 +47,7 @@ pub record AddsUnits (old new : List (List Lit)) : Type 0 where
   pub are : AreUnits old units
 
 -- a search went on: its clauses mean the same, those that came are units, the assumed literals
--- still
--- come first, and all is still settled below
+-- still come first, and all is still settled below
 pub record GoesOn (assumed : List Lit) (clauses more : List (List Lit)) (old new : Assigned) :
     Type 0 where
   pub vars : new.vars ≡ old.vars

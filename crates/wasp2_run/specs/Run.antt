@@ -80,8 +80,7 @@ abbrev pub IsRefusalOf : ReadError → ℕ → List ℕ → Type 0
 IsRefusalOf error status text = (status ≡ refusal_status error) × (text ≡ refusal_text error)
 
 -- what is written for words and input, with the status. The two counts are those of the source's
--- faults before
--- and after the run
+-- faults before and after the run
 pub data Row (words : List (List ℕ)) (input : List ℕ) (before now : ℕ) : ℕ → List ℕ → Type 0 where
   answered : {status : ℕ} {text : List ℕ} (program : Program) → IsQuery words → IsShort input →
       Reads input program → Answers program status text → Row words input before now status text
