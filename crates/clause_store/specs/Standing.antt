@@ -1,10 +1,11 @@
 -- How literals and clauses stand on a trail, and which assignments are followed.
-use Rattle.std.specs.Prelude.{◌≡◌, ◌≢◌, ℕ, List, slice_get, All, Any, Contains, Some}
+use Rattle.std.specs.Prelude.{◌≡◌, ◌≢◌, ℕ, List, length, map, take, slice_get, All, Any, Contains}
+use Rattle.std.specs.Prelude.{Some}
 use Rattle.clause_store.specs.declared.literal.Lit.{Lit}
 use Rattle.clause_store.specs.declared.literal.ClauseRef.{ClauseRef}
 use Rattle.clause_store.specs.declared.literal.Value.TheVariants.{No, Unset}
 use Rattle.clause_store.specs.declared.step.Step.{Step}
-use Rattle.clause_store.specs.Trail.{value_of}
+use Rattle.clause_store.specs.Trail.{Assigned, IsTrail, value_of, up_to}
 
 -- a literal is false by the assignments
 abbrev pub IsFalse : List Step → Lit → Type 0
@@ -39,3 +40,19 @@ IsOn steps it = Any (λ step. (step.lit ≡ it.lit) × (step.level ≡ it.level)
 -- each followed assignment is on the trail with its level
 abbrev pub AreOn : List Step → List Followed → Type 0
 AreOn steps followed = All (IsOn steps) followed
+
+-- an assignment as it is followed
+abbrev pub as_followed : Step → Followed
+as_followed step = record { lit = step.lit; level = step.level }
+
+-- the followed assignments are a front of the trail, in order and with their levels
+abbrev pub AreFollowed : List Step → List Followed → Type 0
+AreFollowed steps followed = followed ≡ map as_followed (take (length followed) steps)
+
+-- they were a front of an earlier trail, and the trail is what that has up to a level
+pub record HasGoneBack (trail : Assigned) (followed : List Followed) : Type 0 where
+  pub earlier : List Step
+  pub level : ℕ
+  pub was_trail : IsTrail (record trail { steps = earlier })
+  pub were_followed : AreFollowed earlier followed
+  pub went_back : trail.steps ≡ up_to level earlier
