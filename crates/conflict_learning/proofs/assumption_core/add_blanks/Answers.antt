@@ -1,6 +1,6 @@
 use Rattle.std.proofs.Common.{◌-◌, get_or, sym, subst, arith}
 use Rattle.conflict_learning.proofs.AssignedLemmas.{blank}
-use Rattle.conflict_learning.proofs.RefusalLemmas as lemma
+use Rattle.conflict_learning.proofs.CoreLemmas as lemma
 use Rattle.conflict_learning.proofs.assumption_core.add_blanks.Goals as goal
 
 pub loop-low-preserved : goal.loop-low-preserved

@@ -1,6 +1,6 @@
 use Rattle.std.proofs.Common.{subst}
 use Rattle.conflict_learning.specs.Cells.{AddsBlanks}
-use Rattle.conflict_learning.proofs.RefusalLemmas as lemma
+use Rattle.conflict_learning.proofs.CoreLemmas as lemma
 use Rattle.conflict_learning.proofs.assumption_core.add_decisions.Goals as goal
 
 pub explain_all-requires-clause-cells : goal.explain_all-requires-clause-cells

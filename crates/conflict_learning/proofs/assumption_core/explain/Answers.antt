@@ -4,7 +4,7 @@ use Rattle.std.specs.Prelude.{slice_get}
 use Rattle.clause_store.specs.declared.step.Step.{Step}
 use Rattle.conflict_learning.specs.Cells.{Explains}
 use Rattle.conflict_learning.proofs.AssignedLemmas.{blank}
-use Rattle.conflict_learning.proofs.RefusalLemmas as lemma
+use Rattle.conflict_learning.proofs.CoreLemmas as lemma
 use Rattle.conflict_learning.proofs.assumption_core.explain.Goals as goal
 
 -- the assignment of the cell

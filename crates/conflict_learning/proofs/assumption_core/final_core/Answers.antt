@@ -1,7 +1,7 @@
 use Rattle.std.proofs.Common.{◌∙◌, ap, sym}
 use Rattle.std.proofs.lemmas.Result.{on_ok_weaker}
 use Rattle.clause_store.specs.Trail.{place_of}
-use Rattle.conflict_learning.proofs.RefusalLemmas as lemma
+use Rattle.conflict_learning.proofs.CoreLemmas as lemma
 use Rattle.conflict_learning.proofs.assumption_core.final_core.Goals as goal
 
 pub returns-in-None-clause-unmet : goal.returns-in-None-clause-unmet
