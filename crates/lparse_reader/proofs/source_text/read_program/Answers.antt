@@ -1,7 +1,7 @@
 use Rattle.std.proofs.Common.{Err}
 use Rattle.lparse_reader.specs.declared.fault.ReadError.TheVariants.{TooLong, ReadFault, NoMemory}
 use Rattle.lparse_reader.proofs.ParseLemmas.{source_all_read, source_short, source_any}
-use Rattle.lparse_reader.proofs.CoreLemmas.{source_refused, source_all_refused}
+use Rattle.lparse_reader.proofs.RefusalLemmas.{source_refused, source_all_refused}
 use Rattle.lparse_reader.proofs.source_text.read_program.Goals as goal
 
 pub returns-in-Ok-clause-all_read : goal.returns-in-Ok-clause-all_read
