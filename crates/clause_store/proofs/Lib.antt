@@ -7,3 +7,5 @@ pub mod PlaceLemmas
 pub mod ArrayLemmas
 pub mod ReasonLemmas
 pub mod BackLemmas
+pub mod UnitLemmas
+pub mod RowLemmas

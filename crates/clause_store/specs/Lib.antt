@@ -6,3 +6,4 @@ pub mod Counted
 pub mod Layout
 pub mod Arrays
 pub mod Laws
+pub mod UnitLaws

@@ -3,6 +3,8 @@ ghost use Rattle.clause_store.specs.Laws.{ClosureGrows, RefutingGrows, Absorbing
 ghost use Rattle.clause_store.specs.Laws.{ContainingIsAbsorbed, UnitsDiffer, UnitsGrow};
 ghost use Rattle.clause_store.specs.Laws.{ClosureHolds, RefutedFollows, TrailStays, TotalMeans};
 ghost use Rattle.clause_store.specs.Laws.{ValuesAfterBack, FrontAfterBack, BackTwice};
+ghost use Rattle.clause_store.specs.UnitLaws.{UnitAmongFewer, UnitsAmongFewer, UnitsGrowInStore};
+ghost use Rattle.clause_store.specs.UnitLaws.{UnitsSplit, UnitsAreFew};
 
 /// The closure only grows with the clauses and with the literals.
 pub fn closure_grows()
@@ -32,6 +34,32 @@ pub fn units_differ()
 /// A unit beside all that came before it makes a list of units longer.
 pub fn units_grow()
     ensures { UnitsGrow }
+{}
+
+/// A unit beside more clauses is one beside fewer of them.
+pub fn unit_among_fewer()
+    ensures { UnitAmongFewer }
+{}
+
+/// Units over more clauses are units over fewer of them.
+pub fn units_among_fewer()
+    ensures { UnitsAmongFewer }
+{}
+
+/// A unit beside a store that has the base and the units so far makes the list of units longer.
+pub fn units_grow_in_store()
+    ensures { UnitsGrowInStore }
+{}
+
+/// The later ones of a list of units are units over the base with the earlier ones, and the other
+/// way round.
+pub fn units_split()
+    ensures { UnitsSplit }
+{}
+
+/// Units over the variables 1 to v are fewer than 3 to the power v.
+pub fn units_are_few()
+    ensures { UnitsAreFew }
 {}
 
 /// What propagation gives from true literals is true.

@@ -5,7 +5,9 @@
 mod laws;
 mod normal;
 mod spent;
+mod variables;
 
 pub use laws::{normal_form_is_in_range, normal_form_means_the_program, one_normal_form};
 pub use normal::{Bodies, BodyOf, MOST_VARIABLES, Normal, NormalRule, NormalRules, Part, Parts};
 pub use spent::{SpentTest, Tests};
+pub use variables::literal_of;
