@@ -9,3 +9,4 @@ pub mod ReasonLemmas
 pub mod BackLemmas
 pub mod UnitLemmas
 pub mod RowLemmas
+pub mod HistoryLemmas

@@ -7,3 +7,5 @@ pub mod Layout
 pub mod Arrays
 pub mod Laws
 pub mod UnitLaws
+pub mod History
+pub mod HistoryLaws
