@@ -27,14 +27,15 @@ use Rattle.normal_program.specs.Limit.{IsNormal}
 use Rattle.normal_program.specs.Loop.{IsAtomOf}
 use Rattle.normal_program.specs.Range.{IsInRange}
 use Rattle.normal_program.proofs.RangeLemmas.{IsNormal-in_range}
-use Rattle.completion.specs.Completion.{MakeModels}
 use Rattle.normal_program.specs.Models.{IsAssignmentOf, set_of, front_of, MeansWeightBodies}
-use Rattle.normal_program.specs.Models.{IsModelOf}
-use Rattle.completion.proofs.TruthLemmas.{makes_true-positive, makes_true-negative, HoldsIn-cases}
-use Rattle.completion.proofs.CleanLemmas.{flat_has, hold_from_cleaned}
-use Rattle.completion.proofs.BodyLemmas.{holds-all, all-holds, all_clauses-forth, all_clauses-back}
-use Rattle.completion.proofs.EntailedLemmas.{literals-count, count-literals}
-use Rattle.completion.proofs.RuleLemmas.{Reads, choice-kept, rule_clause-keeps}
+use Rattle.normal_program.specs.Models.{IsModelOf, MakeModels}
+use Rattle.normal_program.proofs.lemmas.Base.TruthLemmas.{makes_true-positive, makes_true-negative}
+use Rattle.normal_program.proofs.lemmas.Base.TruthLemmas.{HoldsIn-cases}
+use Rattle.normal_program.proofs.lemmas.Base.CleanLemmas.{flat_has, hold_from_cleaned}
+use Rattle.normal_program.proofs.lemmas.Base.BodyLemmas.{holds-all, all-holds, all_clauses-forth}
+use Rattle.normal_program.proofs.lemmas.Base.BodyLemmas.{all_clauses-back}
+use Rattle.normal_program.proofs.lemmas.Base.EntailedLemmas.{literals-count, count-literals}
+use Rattle.normal_program.proofs.lemmas.Base.RuleLemmas.{Reads, choice-kept, rule_clause-keeps}
 
 -- the item of a number stands among the numbered ones
 numbered_has : {X : Type 0} (xs : List X) (number : ℕ) (x : X) → slice_get xs number ≡ Some x
