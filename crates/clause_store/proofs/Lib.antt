@@ -10,3 +10,6 @@ pub mod BackLemmas
 pub mod UnitLemmas
 pub mod RowLemmas
 pub mod HistoryLemmas
+pub mod FrontLemmas
+pub mod StillLemmas
+pub mod ZeroLemmas

@@ -5,6 +5,7 @@ ghost use Rattle.propagator.specs.Laws.{ReadyWithNext, ReadyAfterRewind};
 ghost use Rattle.propagator.specs.Laws.{ExtendingGoesOn, ReasonsHold};
 ghost use Rattle.propagator.specs.Laws.{FixpointHasClosure, FixpointRefutesNone};
 ghost use Rattle.propagator.specs.Laws.{FixpointAbsorbsNoUnit, TotalFixpointMeets};
+ghost use Rattle.propagator.specs.Laws.{FixpointAbsorbsNoFalse, PropagationKeepsValues};
 
 /// A store, a trail and watches stay ready for propagation when assignments come last.
 pub fn ready_with_more()
@@ -59,4 +60,14 @@ pub fn fixpoint_absorbs_no_unit()
 /// The assignment of a total trail at a fixpoint meets the clauses.
 pub fn total_fixpoint_meets()
     ensures { TotalFixpointMeets }
+{}
+
+/// A clause that has a literal and is false at a fixpoint of other clauses isn't absorbed by them.
+pub fn fixpoint_absorbs_no_false()
+    ensures { FixpointAbsorbsNoFalse }
+{}
+
+/// A literal with a value keeps it under propagation, and its variable keeps its level.
+pub fn propagation_keeps_values()
+    ensures { PropagationKeepsValues }
 {}
