@@ -3,13 +3,14 @@ use Rattle.std.specs.Prelude.{◌+◌, ◌↔◌, ℕ, List, [], ◌++◌, lengt
 use Rattle.clause_store.specs.declared.literal.Lit.{Lit}
 use Rattle.clause_store.specs.Clause.{IsOver, AreOver}
 use Rattle.clause_store.specs.Entailment.{AreUnits}
+use Rattle.clause_store.specs.History.{AreRefutedWith}
 use Rattle.normal_program.specs.declared.normal.Normal.{Normal}
 use Rattle.normal_program.specs.declared.spent.SpentTest.{SpentTest}
 use Rattle.normal_program.specs.Normal.{greatest_body_var}
 use Rattle.normal_program.specs.Clauses.{base_clauses, IsEntailed}
 use Rattle.normal_program.specs.Limit.{IsNormal}
 use Rattle.normal_program.specs.Loop.{IsLoopClauseFor, FollowsFromBody, IsLocal}
-use Rattle.normal_program.specs.Spent.{selector_clauses, AreRefutedWith, IsSpentTest}
+use Rattle.normal_program.specs.Spent.{selector_clauses, IsSpentTest}
 use Rattle.normal_program.specs.Spent.{IsWideSpentTest, IsGrounded}
 
 -- a loop clause is entailed, with any disjunctions

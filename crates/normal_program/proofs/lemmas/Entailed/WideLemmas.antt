@@ -11,8 +11,7 @@ use Rattle.std.proofs.lemmas.List.Elements.{Contains-get_or}
 use Rattle.clause_store.specs.declared.literal.Lit.{Lit}
 use Rattle.clause_store.specs.Clause.{truth, HoldsIn, AreOver}
 use Rattle.clause_store.specs.Entailment.{AreUnits}
-use Rattle.clause_store.specs.Laws.{AreMoreClauses}
-use Rattle.clause_store.proofs.EntailmentLemmas.{absorbing_grows}
+use Rattle.clause_store.proofs.UnitLemmas.{units_among_fewer}
 use Rattle.normal_program.specs.declared.normal.Normal.{Normal}
 use Rattle.normal_program.specs.declared.spent.SpentTest.{SpentTest}
 use Rattle.normal_program.specs.Normal.{greatest_body_var, first_selector, extension}
@@ -67,29 +66,11 @@ selector_clauses-entailed normal disjunctions over k d h set chosen answer are_c
     (λ j c inside. omega (arith, (over i e within j c inside).last, size)))
     k d h
 
--- units beside more clauses are units beside fewer
-pub AreUnits-fewer : (fewer more units : List (List Lit)) → AreMoreClauses fewer more
-    → AreUnits more units → AreUnits fewer units
-AreUnits-fewer fewer more [] within units = tt
-AreUnits-fewer fewer more (unit ∷ rest) within units = (
-  record {
-    some = units.0.some;
-    once = units.0.once;
-    new = λ absorbed. units.0.new (absorbing_grows fewer more unit within absorbed);
-  },
-  AreUnits-fewer (fewer ++ unit ∷ []) (more ++ unit ∷ []) rest
-      (All-append (λ clause. Contains (more ++ unit ∷ []) clause) fewer (unit ∷ [])
-      (λ k d h. Contains-append_left more (unit ∷ []) (get_or fewer k d) (within k d h))
-      (λ k d h. Contains-append_right more (unit ∷ []) (get_or (unit ∷ []) k d)
-      (Contains-get_or (unit ∷ []) k d h)))
-      units.1,
-)
-
 -- the units of a wide spent test are units over the base clauses
 pub wide-units : (normal : Normal) (disjunctions : List (List Lit)) (test : SpentTest)
     → IsWideSpentTest normal disjunctions test → AreUnits (base_clauses normal) test.units
 wide-units normal disjunctions test wide =
-    AreUnits-fewer (base_clauses normal)
+    units_among_fewer (base_clauses normal)
     (base_clauses normal ++ selector_clauses normal disjunctions) test.units
     (λ k d h. Contains-append_left (base_clauses normal) (selector_clauses normal disjunctions)
     (get_or (base_clauses normal) k d) (Contains-get_or (base_clauses normal) k d h))
