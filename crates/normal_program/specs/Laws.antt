@@ -1,14 +1,17 @@
 -- Laws of entailment. Each is a clause of a function in src/laws.rt.
 use Rattle.std.specs.Prelude.{◌+◌, ◌↔◌, ℕ, List, [], ◌++◌, length, All, IfNone}
 use Rattle.clause_store.specs.declared.literal.Lit.{Lit}
-use Rattle.clause_store.specs.Clause.{IsOver}
+use Rattle.clause_store.specs.Clause.{IsOver, AreOver}
+use Rattle.clause_store.specs.Entailment.{AreUnits}
+use Rattle.clause_store.specs.History.{AreRefutedWith}
 use Rattle.normal_program.specs.declared.normal.Normal.{Normal}
 use Rattle.normal_program.specs.declared.spent.SpentTest.{SpentTest}
 use Rattle.normal_program.specs.Normal.{greatest_body_var}
-use Rattle.normal_program.specs.Clauses.{IsEntailed}
+use Rattle.normal_program.specs.Clauses.{base_clauses, IsEntailed}
 use Rattle.normal_program.specs.Limit.{IsNormal}
 use Rattle.normal_program.specs.Loop.{IsLoopClauseFor, FollowsFromBody, IsLocal}
-use Rattle.normal_program.specs.Spent.{AreRefutedWith, IsGrounded}
+use Rattle.normal_program.specs.Spent.{selector_clauses, IsSpentTest}
+use Rattle.normal_program.specs.Spent.{IsWideSpentTest, IsGrounded}
 
 -- a loop clause is entailed, with any disjunctions
 abbrev pub LoopClausesAreEntailed : Type 0
@@ -55,3 +58,22 @@ EntailedWithMoreSelectors =
     (normal : Normal) (disjunctions more : List (List Lit)) (clause : List Lit)
     → All (IsOver (greatest_body_var normal + length disjunctions)) clause
     → IsEntailed normal disjunctions clause → IsEntailed normal (disjunctions ++ more) clause
+
+-- the clauses of selectors are entailed with their disjunctions, where these have no selectors
+abbrev pub SelectorClausesAreEntailed : Type 0
+SelectorClausesAreEntailed =
+    (normal : Normal) (disjunctions : List (List Lit))
+    → AreOver (greatest_body_var normal) disjunctions
+    → All (IsEntailed normal disjunctions) (selector_clauses normal disjunctions)
+
+-- the units of a wide spent test are units over the base clauses
+abbrev pub WideUnitsAreUnits : Type 0
+WideUnitsAreUnits =
+    (normal : Normal) (disjunctions : List (List Lit)) (test : SpentTest)
+    → IsWideSpentTest normal disjunctions test → AreUnits (base_clauses normal) test.units
+
+-- a wide spent test with no selector in use is a spent test
+abbrev pub WithoutSelectorsIsSpent : Type 0
+WithoutSelectorsIsSpent =
+    (normal : Normal) (test : SpentTest) → IsWideSpentTest normal [] test
+    → IsSpentTest normal test

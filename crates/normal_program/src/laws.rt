@@ -10,7 +10,8 @@ ghost use Rattle.normal_program.specs.Limit.{IsNormal};
 ghost use Rattle.normal_program.specs.Laws.{LoopClausesAreEntailed, ClausesOfBodiesAreEntailed};
 ghost use Rattle.normal_program.specs.Laws.{LocalClausesAreEntailed, RefutedAreEntailed};
 ghost use Rattle.normal_program.specs.Laws.{GroundedAreEntailed, EntailedWithoutSelectors};
-ghost use Rattle.normal_program.specs.Laws.{EntailedWithMoreSelectors};
+ghost use Rattle.normal_program.specs.Laws.{EntailedWithMoreSelectors, SelectorClausesAreEntailed};
+ghost use Rattle.normal_program.specs.Laws.{WideUnitsAreUnits, WithoutSelectorsIsSpent};
 ghost use Rattle.normal_program.specs.Range.{IsInRange};
 ghost use Rattle.normal_program.specs.Normal.{IsNormalFormOf, SameBodies, SameAnswerSets};
 
@@ -70,4 +71,12 @@ pub fn grounded_is_entailed()
 pub fn other_selectors_do_not_matter()
     ensures none { EntailedWithoutSelectors }
     ensures more { EntailedWithMoreSelectors }
+{}
+
+/// With the disjunctions of the selectors in use the clauses of these are entailed. The units of a
+/// wide spent test are units over the base clauses, and with no selector in use it is a spent test.
+pub fn wide_tests_count_units()
+    ensures selectors { SelectorClausesAreEntailed }
+    ensures units { WideUnitsAreUnits }
+    ensures spent { WithoutSelectorsIsSpent }
 {}

@@ -3,3 +3,4 @@ pub mod ChoiceLemmas
 pub mod WithoutLemmas
 pub mod LoopLemmas
 pub mod GroundedLemmas
+pub mod WideLemmas

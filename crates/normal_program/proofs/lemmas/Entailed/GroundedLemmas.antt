@@ -3,6 +3,7 @@ use Rattle.std.proofs.Common.{Bool, List, [], ◌∷◌, ◌++◌, Option, None,
 use Rattle.std.proofs.lemmas.List.Elements.{All-nil, All-cons, All-append}
 use Rattle.clause_store.specs.declared.literal.Lit.{Lit}
 use Rattle.clause_store.specs.Clause.{HoldsIn}
+use Rattle.clause_store.specs.History.{RefutedWith, AreRefutedWith}
 use Rattle.clause_store.proofs.EntailmentLemmas.{refuted_follows}
 use Rattle.normal_program.specs.declared.normal.Normal.{Normal}
 use Rattle.normal_program.specs.declared.spent.SpentTest.{SpentTest}
@@ -11,7 +12,7 @@ use Rattle.normal_program.specs.Clauses.{base_clauses, IsEntailed}
 use Rattle.normal_program.specs.Limit.{IsNormal}
 use Rattle.normal_program.specs.Loop.{IsLocal}
 use Rattle.normal_program.specs.Range.{IsInRange}
-use Rattle.normal_program.specs.Spent.{RefutedWith, AreRefutedWith, IsGrounded}
+use Rattle.normal_program.specs.Spent.{IsGrounded}
 use Rattle.normal_program.proofs.RangeLemmas.{IsNormal-in_range}
 use Rattle.normal_program.proofs.lemmas.Base.EntailedLemmas.{base_clauses-entailed}
 use Rattle.normal_program.proofs.lemmas.Entailed.ChoiceLemmas.{body_clause-entailed}
