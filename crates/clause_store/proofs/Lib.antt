@@ -13,3 +13,5 @@ pub mod HistoryLemmas
 pub mod FrontLemmas
 pub mod StillLemmas
 pub mod ZeroLemmas
+pub mod CountLemmas
+pub mod ProgressLemmas

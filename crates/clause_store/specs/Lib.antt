@@ -9,3 +9,5 @@ pub mod Laws
 pub mod UnitLaws
 pub mod History
 pub mod HistoryLaws
+pub mod Progress
+pub mod ProgressLaws

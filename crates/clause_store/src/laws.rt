@@ -11,6 +11,8 @@ ghost use Rattle.clause_store.specs.HistoryLaws.{HistoryTakesCounted};
 ghost use Rattle.clause_store.specs.Laws.{HoldsInFront, MeetsInFront};
 ghost use Rattle.clause_store.specs.Laws.{ValuesStay, ForcesAfterBack};
 ghost use Rattle.clause_store.specs.Laws.{FalseAtZero, ConflictAtZero};
+ghost use Rattle.clause_store.specs.ProgressLaws.{ProgressIsBounded, ProgressRises};
+ghost use Rattle.clause_store.specs.ProgressLaws.{ProgressRisesAfterBack, PresentAfterBack};
 
 /// The closure only grows with the clauses and with the literals.
 pub fn closure_grows()
@@ -173,4 +175,25 @@ pub fn false_at_zero()
 /// A conflict while the trail is at level 0 means that no assignment meets the clauses.
 pub fn conflict_at_zero()
     ensures { ConflictAtZero }
+{}
+
+/// Progress on a trail is less than a bound that its number of variables gives.
+pub fn progress_is_bounded()
+    ensures { ProgressIsBounded }
+{}
+
+/// Where there is no conflict, progress rises when assignments come last or a conflict is found.
+pub fn progress_rises()
+    ensures { ProgressRises }
+{}
+
+/// After a conflict, progress rises when the trail goes back to a lower level and there assignments
+/// come last or again a conflict is found.
+pub fn progress_rises_after_back()
+    ensures { ProgressRisesAfterBack }
+{}
+
+/// Going back to a level that there is makes it the present one.
+pub fn present_after_back()
+    ensures { PresentAfterBack }
 {}

@@ -7,3 +7,4 @@ pub mod ClosureLemmas
 pub mod TotalLemmas
 pub mod AttachLemmas
 pub mod FalseLemmas
+pub mod RunLemmas

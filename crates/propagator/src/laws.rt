@@ -6,6 +6,7 @@ ghost use Rattle.propagator.specs.Laws.{ExtendingGoesOn, ReasonsHold};
 ghost use Rattle.propagator.specs.Laws.{FixpointHasClosure, FixpointRefutesNone};
 ghost use Rattle.propagator.specs.Laws.{FixpointAbsorbsNoUnit, TotalFixpointMeets};
 ghost use Rattle.propagator.specs.Laws.{FixpointAbsorbsNoFalse, PropagationKeepsValues};
+ghost use Rattle.propagator.specs.ProgressLaws.{ProgressByPropagation, ProgressByGoingBack};
 
 /// A store, a trail and watches stay ready for propagation when assignments come last.
 pub fn ready_with_more()
@@ -70,4 +71,15 @@ pub fn fixpoint_absorbs_no_false()
 /// A literal with a value keeps it under propagation, and its variable keeps its level.
 pub fn propagation_keeps_values()
     ensures { PropagationKeepsValues }
+{}
+
+/// A run of propagation that assigns something or finds a conflict makes progress.
+pub fn progress_by_propagation()
+    ensures { ProgressByPropagation }
+{}
+
+/// After a conflict, such a run on the trail that went back to a lower level makes progress, as
+/// does a conflict that is there at once.
+pub fn progress_by_going_back()
+    ensures { ProgressByGoingBack }
 {}
