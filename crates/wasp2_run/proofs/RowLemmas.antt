@@ -1,12 +1,10 @@
 -- Which row of the table a run comes to.
-use Rattle.std.proofs.Common.{◌≡◌, ◌≢◌, ◌≤◌, ◌<◌, ℕ, List, [], ◌∷◌, Option, Some, None, Ok, Err}
-use Rattle.std.proofs.Common.{length, drop, refl, sym, subst, inl, inr, ◌⊎◌}
-use Rattle.std.specs.Prelude.{Result, IfSome, IfOk, IfErr, IsErrOf}
+use Rattle.std.proofs.Common.{◌≡◌, ◌≢◌, ℕ, List, [], Option, Some, None, Ok, Err}
+use Rattle.std.proofs.Common.{refl, sym, subst, arith}
+use Rattle.std.specs.Prelude.{Result, IfOk}
 use Rattle.byte_edges.specs.Faults.{Rose}
-use Rattle.byte_edges.specs.Edges.{Writes}
 use Rattle.ground_program.specs.declared.program.Program.{Program}
-use Rattle.lparse_reader.specs.Pieces.{Reads}
-use Rattle.lparse_reader.specs.Refuses.{Refuses, IsOutcome, IsOfSomeText}
+use Rattle.lparse_reader.specs.Refuses.{IsOutcome, IsOfSomeText}
 use Rattle.lparse_reader.specs.declared.fault.ReadError.{ReadError}
 use Rattle.lparse_reader.specs.declared.fault.ReadError.TheVariants.{Text, TooLong, ReadFault}
 use Rattle.lparse_reader.specs.declared.fault.ReadError.TheVariants.{NoMemory}

@@ -1,5 +1,5 @@
 -- What a run may write for its words and its input, and the status with which it ends.
-use Rattle.std.specs.Prelude.{◌≡◌, ◌≤◌, ◌<◌, ◌⊎◌, ℕ, List, [], ◌∷◌, ◌++◌, Option, Some, None}
+use Rattle.std.specs.Prelude.{◌≡◌, ◌≤◌, ◌<◌, ◌⊎◌, ℕ, List, [], ◌∷◌, ◌++◌, Option}
 use Rattle.std.specs.Prelude.{length, take, codes, IfSome}
 use Rattle.byte_edges.specs.Faults.{Rose}
 use Rattle.byte_edges.specs.Edges.{Appended}
