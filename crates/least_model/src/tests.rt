@@ -1,6 +1,8 @@
 // Small programs with their least models, worked out by hand.
-use crate::{consequences_are_in_set, first_other_rule, least_model, meets_compute, no_answer_set};
-use ground_program::{AtomLit, Atoms, Body, Heads, Kind, Program, Rule, Set, Weighted, is_valid};
+use crate::{consequences_are_in_set, first_other_rule, least_model, no_answer_set};
+use ground_program::{
+    AtomLit, Atoms, Body, Heads, Kind, Program, Rule, Set, Weighted, is_valid, meets_compute,
+};
 use item_list::{List, NoMemory};
 use std::alloc::Global;
 use std::process::Abort;
