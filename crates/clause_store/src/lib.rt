@@ -4,6 +4,7 @@
 
 mod budget;
 mod clause;
+mod clause_arrays;
 pub mod laws;
 mod literal;
 mod step;
