@@ -9,7 +9,7 @@ use Rattle.std.proofs.lemmas.Option.{get_or_from_slice_get, slice_get_within}
 use Rattle.std.proofs.lemmas.List.Elements.{All-push}
 use Rattle.clause_store.specs.declared.literal.Lit.{Lit}
 use Rattle.clause_store.specs.Clause.{IsClause}
-use Rattle.clause_store.specs.Layout.{cuts, clauses_of, RiseTo, AreCut, IsLaidOut}
+use Rattle.clause_store.specs.Layout.{cuts, clauses_of, RiseTo, IsLaidOut}
 
 -- no end is past the array
 start_within : (size start : ℕ) (ends : List ℕ) → RiseTo size start ends → start ≤ size
@@ -128,8 +128,7 @@ pub clause_between : (lits : List Lit) (bounds : List ℕ) (clauses : List (List
 clause_between lits bounds clauses at start end laid are within starts stops =
     let here : at < length (clauses_of lits bounds) = omega (arith, within, ap length are) in
     let part : IsPart lits (clauses_of lits bounds) at start end =
-    part_at lits bounds at start end laid here starts stops in
-    (
+    part_at lits bounds at start end laid here starts stops in (
       subst (λ all. IsPart lits all at start end) are part,
       allowed_at lits bounds at (slice_range lits start end) laid part.named,
     )

@@ -1,6 +1,5 @@
 -- How a store keeps its clauses. No public clause cites this module.
-use Rattle.std.specs.Prelude.{◌≡◌, ◌<◌, ◌≤◌, ◌+◌, ◌^◌, ℕ, List, [], ◌∷◌, length, All, slice_range}
-use Rattle.std.specs.Prelude.{⊤}
+use Rattle.std.specs.Prelude.{◌≡◌, ◌<◌, ◌≤◌, ◌^◌, ℕ, List, [], ◌∷◌, length, All, slice_range}
 use Rattle.clause_store.specs.declared.literal.Lit.{Lit}
 use Rattle.clause_store.specs.Clause.{IsClause}
 

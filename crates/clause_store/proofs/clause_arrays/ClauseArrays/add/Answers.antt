@@ -1,6 +1,6 @@
-use Rattle.std.proofs.Common.{◌≡◌, ◌++◌, ◌∷◌, [], ◌<◌, ◌+◌, ◌^◌, ◌∙◌, sym, ap, ap₂, subst, arith}
+use Rattle.std.proofs.Common.{◌≡◌, ◌++◌, ◌∷◌, [], ◌<◌, ◌+◌, ◌^◌, ◌∙◌, ap, ap₂, arith}
 use Rattle.std.proofs.Common.{length, length-append}
-use Rattle.clause_store.specs.Layout.{clauses_of, IsLaidOut}
+use Rattle.clause_store.specs.Layout.{clauses_of}
 use Rattle.clause_store.proofs.LayoutLemmas.{clauses_push, laid_out_push, few_lits}
 use Rattle.clause_store.proofs.clause_arrays.ClauseArrays.add.Goals as goal
 use Rattle.clause_store.proofs.clause_arrays.ClauseArrays.add.Goals.{After-push_reserved}

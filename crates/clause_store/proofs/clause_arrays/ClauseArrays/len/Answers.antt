@@ -1,4 +1,4 @@
-use Rattle.std.proofs.Common.{◌∙◌, sym, ap, arith, length}
+use Rattle.std.proofs.Common.{arith}
 use Rattle.clause_store.proofs.LayoutLemmas.{bounds_more, few_clauses}
 use Rattle.clause_store.proofs.clause_arrays.ClauseArrays.len.Goals as goal
 

@@ -1,7 +1,4 @@
-use Rattle.std.proofs.Common.{◌∙◌, sym, ap, subst, arith}
-use Rattle.std.specs.Prelude.{◌≡◌, ◌<◌, Some, length, slice_get}
-use Rattle.clause_store.specs.declared.literal.Lit.{Lit}
-use Rattle.clause_store.specs.Clause.{IsClause}
+use Rattle.std.proofs.Common.{arith}
 use Rattle.clause_store.proofs.LayoutLemmas.{bound_behind, clause_between}
 use Rattle.clause_store.proofs.clause_arrays.ClauseArrays.lits.Goals as goal
 
