@@ -31,7 +31,7 @@ struct Case {
 
 const CASES: [Case; 8] = [
     Case {
-        shows: "the refused literal comes first in a core, and the decision after it",
+        shows: "the failed literal comes first in a core, and the decision after it",
         vars: 2,
         clauses: &[&[3, 4]],
         assumed: &[2, 5],
