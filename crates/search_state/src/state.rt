@@ -64,6 +64,16 @@ impl SearchState {
         self.dead
     }
 
+    /// The trail is one of the clauses, and they are over its variables, as contracts know it then.
+    /// It does nothing when it runs.
+    pub fn vouch(&self)
+        ensures is_trail { IsTrail self.now.trail }
+        ensures of_store { IsTrailOf self.now.trail.steps self.now.clauses }
+        ensures over { AreOver self.now.trail.vars self.now.clauses }
+    {
+        let _ = &self.dead;
+    }
+
     /// The assignments. They are those of the clauses, also in a dead state.
     pub fn trail(&self) -> &Trail
         ensures trail { result.now ≡ self.now.trail }
