@@ -20,6 +20,3 @@ pub use step::Step;
 pub use store::Store;
 pub use theory_says::{Says, Short};
 pub use trail::Trail;
-
-#[cfg(test)]
-mod tests;

@@ -1,9 +1,8 @@
 // Small lists of clauses whose closures and units are known. Literal 2 says that variable 1 is
 // true, literal 3 that it is false, and so on.
-use crate::{absorbs, are_units, closure, refutes};
 use clause_store::{Clause, Lit, NoMemory, Units};
+use plain_units::{absorbs, are_units, closure, refutes};
 use std::alloc::Global;
-use std::test::Fail;
 
 /// A list of clauses beside clauses that there are before.
 struct Case {
@@ -12,6 +11,9 @@ struct Case {
     list: &'static [&'static [u32]],
     are_units: bool,
 }
+
+/// A chain of two steps, and a clause that its end makes false with one literal more.
+const CHAIN: &[&[u32]] = &[&[5, 6], &[3, 4], &[7, 9, 8]];
 
 const CASES: [Case; 9] = [
     Case {
@@ -70,36 +72,47 @@ const CASES: [Case; 9] = [
     },
 ];
 
-#[test]
-fn units_are_told_from_others(rt: HostRuntime) -> Result<(), Fail> {
-    let alloc = rt.alloc();
+/// What the first case shows that is told wrongly.
+pub fn wrongly_told(alloc: Global) -> Result<Option<&'static str>, NoMemory> {
     for case in &CASES {
-        let base = clauses_of(alloc, case.base)?;
-        let list = clauses_of(alloc, case.list)?;
-        let told = are_units(alloc, &base, &list)?;
-        assert_eq!(rt; told, case.are_units, "{}", case.shows);
+        if is_told(alloc, case)? != case.are_units {
+            return Ok(Some(case.shows));
+        }
     }
-    Ok(())
+    Ok(None)
 }
 
-#[test]
-fn propagation_goes_on_to_the_end(rt: HostRuntime) -> Result<(), Fail> {
-    let alloc = rt.alloc();
-    let clauses = clauses_of(alloc, &[&[5, 6], &[3, 4], &[7, 9, 8]])?;
-    let clauses = clauses.as_slice();
-    let known = closure(alloc, clauses, &[Lit(2)])?;
-    assert!(rt; known.as_slice() == [Lit(2), Lit(4), Lit(6)].as_slice());
-    let refuted = refutes(alloc, clauses, &[Lit(2), Lit(7)])?;
-    assert!(rt; refuted);
-    let refuted = refutes(alloc, clauses, &[Lit(2)])?;
-    assert!(rt; !refuted);
-    let absorbed = absorbs(alloc, clauses, &[Lit(3), Lit(6)])?;
-    assert!(rt; absorbed);
-    let absorbed = absorbs(alloc, clauses, &[Lit(6)])?;
-    assert!(rt; !absorbed);
-    Ok(())
+/// Whether the list of a case is told to be one of units.
+fn is_told(alloc: Global, case: &Case) -> Result<bool, NoMemory> {
+    let base = clauses_of(alloc, case.base)?;
+    let list = clauses_of(alloc, case.list)?;
+    are_units(alloc, &base, &list)
 }
 
+/// Whether propagation goes on to the end.
+pub fn propagation_goes_on(alloc: Global) -> Result<bool, NoMemory> {
+    let clauses = clauses_of(alloc, CHAIN)?;
+    let known = closure(alloc, clauses.as_slice(), &[Lit(2)])?;
+    Ok(known.as_slice() == [Lit(2), Lit(4), Lit(6)].as_slice())
+}
+
+/// Whether literals are refuted where a clause is false in the end, and only there.
+pub fn refutations_are_told(alloc: Global) -> Result<bool, NoMemory> {
+    let clauses = clauses_of(alloc, CHAIN)?;
+    let refuted = refutes(alloc, clauses.as_slice(), &[Lit(2), Lit(7)])?;
+    let alone = refutes(alloc, clauses.as_slice(), &[Lit(2)])?;
+    Ok(refuted && !alone)
+}
+
+/// Whether a clause is absorbed where propagation does what it does, and only there.
+pub fn absorbed_clauses_are_told(alloc: Global) -> Result<bool, NoMemory> {
+    let clauses = clauses_of(alloc, CHAIN)?;
+    let absorbed = absorbs(alloc, clauses.as_slice(), &[Lit(3), Lit(6)])?;
+    let alone = absorbs(alloc, clauses.as_slice(), &[Lit(6)])?;
+    Ok(absorbed && !alone)
+}
+
+/// The clauses of lists of codes.
 fn clauses_of(alloc: Global, lists: &[&[u32]]) -> Result<Units, NoMemory> {
     let mut clauses = Units::open();
     for codes in lists {
