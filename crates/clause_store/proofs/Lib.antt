@@ -15,3 +15,4 @@ pub mod StillLemmas
 pub mod ZeroLemmas
 pub mod CountLemmas
 pub mod ProgressLemmas
+pub mod FollowedLemmas

@@ -11,3 +11,4 @@ pub mod History
 pub mod HistoryLaws
 pub mod Progress
 pub mod ProgressLaws
+pub mod FollowedLaws

@@ -13,6 +13,8 @@ ghost use Rattle.clause_store.specs.Laws.{ValuesStay, ForcesAfterBack};
 ghost use Rattle.clause_store.specs.Laws.{FalseAtZero, ConflictAtZero};
 ghost use Rattle.clause_store.specs.ProgressLaws.{ProgressIsBounded, ProgressRises};
 ghost use Rattle.clause_store.specs.ProgressLaws.{ProgressRisesAfterBack, PresentAfterBack};
+ghost use Rattle.clause_store.specs.FollowedLaws.{FollowedWithMore, FollowedAfterBack};
+ghost use Rattle.clause_store.specs.FollowedLaws.{FollowedHasGoneBack, GoneBackFurther};
 
 /// The closure only grows with the clauses and with the literals.
 pub fn closure_grows()
@@ -196,4 +198,25 @@ pub fn progress_rises_after_back()
 /// Going back to a level that there is makes it the present one.
 pub fn present_after_back()
     ensures { PresentAfterBack }
+{}
+
+/// A followed front of a trail stays one when assignments come last.
+pub fn followed_with_more()
+    ensures { FollowedWithMore }
+{}
+
+/// Where followed assignments have gone back, those that are left are followed: as many as the
+/// trail has.
+pub fn followed_after_back()
+    ensures { FollowedAfterBack }
+{}
+
+/// What is followed has gone back to the present level.
+pub fn followed_has_gone_back()
+    ensures { FollowedHasGoneBack }
+{}
+
+/// What has gone back to a level has gone back when the trail goes back further.
+pub fn gone_back_further()
+    ensures { GoneBackFurther }
 {}

@@ -9,7 +9,7 @@ use Rattle.clause_store.specs.Clause.{IsOver, AreOver, Meets}
 use Rattle.clause_store.specs.Entailment.{Absorbs, InClosure, Refutes}
 use Rattle.clause_store.specs.Trail.{Assigned, IsTrail, IsTrailOf, IsTotal, value_of, values_of}
 use Rattle.clause_store.specs.Laws.{IsStill}
-use Rattle.clause_store.specs.Standing.{AreOn, IsFalse, IsFalseOn, ForcesOn}
+use Rattle.clause_store.specs.Standing.{AreFollowed, IsFalse, IsFalseOn, ForcesOn}
 use Rattle.propagator.specs.Watched.{Watched, IsAttached, IsReady}
 use Rattle.propagator.specs.Fixpoint.{Extends, IsFixpoint}
 
@@ -52,7 +52,7 @@ ReadyAfterRewind =
     → IsReady clauses old watches
     → new.vars ≡ old.vars → IsTrailOf new.steps clauses
     → rewound ≡ record watches { followed = rewound.followed }
-    → AreOn new.steps rewound.followed → IsReady clauses new rewound
+    → AreFollowed new.steps rewound.followed → IsReady clauses new rewound
 
 -- a run of propagation after another is one
 abbrev pub ExtendingGoesOn : Type 0
