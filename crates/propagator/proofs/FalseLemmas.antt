@@ -12,7 +12,7 @@ use Rattle.clause_store.specs.Laws.{IsStill}
 use Rattle.clause_store.specs.Standing.{IsFalse, IsFalseOn}
 use Rattle.clause_store.specs.Trail.{value_of}
 use Rattle.clause_store.proofs.LiteralLemmas.{has_first}
-use Rattle.clause_store.proofs.StillLemmas.{values_stay}
+use Rattle.clause_store.proofs.lemmas.Trails.StillLemmas.{values_stay}
 use Rattle.propagator.specs.Laws.{FixpointAbsorbsNoFalse, PropagationKeepsValues}
 use Rattle.propagator.proofs.ClosureLemmas.{fixpoint_has_closure, fixpoint_refutes_none, no_negated}
 

@@ -2,8 +2,9 @@
 use Rattle.std.proofs.Common.{◌≡◌, ◌++◌, ap, ◌∙◌, arith}
 use Rattle.std.proofs.lemmas.List.Elements.{All-weaker}
 use Rattle.clause_store.specs.Trail.{present_level}
-use Rattle.clause_store.proofs.ProgressLemmas.{progress_rises, progress_rises_after_back}
-use Rattle.clause_store.proofs.ProgressLemmas.{present_after_back}
+use Rattle.clause_store.proofs.lemmas.Progress.ProgressLemmas.{progress_rises}
+use Rattle.clause_store.proofs.lemmas.Progress.ProgressLemmas.{progress_rises_after_back}
+use Rattle.clause_store.proofs.lemmas.Progress.ProgressLemmas.{present_after_back}
 use Rattle.propagator.specs.ProgressLaws.{ProgressByPropagation, ProgressByGoingBack}
 
 pub progress_by_propagation : ProgressByPropagation

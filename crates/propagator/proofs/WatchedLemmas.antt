@@ -14,7 +14,7 @@ use Rattle.clause_store.proofs.LiteralLemmas.{any_from}
 use Rattle.clause_store.specs.Clause.{IsOver}
 use Rattle.clause_store.specs.Trail.{Assigned}
 use Rattle.clause_store.specs.Standing.{AreFollowed}
-use Rattle.clause_store.proofs.FollowedLemmas.{followed_with_more}
+use Rattle.clause_store.proofs.lemmas.Trails.FollowedLemmas.{followed_with_more}
 use Rattle.clause_store.proofs.TrailLemmas.{slice_get-append, trail_stays}
 use Rattle.propagator.specs.Watched.{Attached, Watched, AreAttached, IsAttached, IsReady}
 use Rattle.propagator.specs.Fixpoint.{IsFixpoint, IsQuietOn}

@@ -1,4 +1,4 @@
-use Rattle.clause_store.proofs.ZeroLemmas as lemma
+use Rattle.clause_store.proofs.lemmas.Trails.ZeroLemmas as lemma
 use Rattle.clause_store.proofs.laws.false_at_zero.Goals as goal
 
 pub returns : goal.returns

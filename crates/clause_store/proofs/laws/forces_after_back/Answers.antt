@@ -1,4 +1,4 @@
-use Rattle.clause_store.proofs.StillLemmas as lemma
+use Rattle.clause_store.proofs.lemmas.Trails.StillLemmas as lemma
 use Rattle.clause_store.proofs.laws.forces_after_back.Goals as goal
 
 pub returns : goal.returns

@@ -1,4 +1,4 @@
-use Rattle.clause_store.proofs.ProgressLemmas as lemma
+use Rattle.clause_store.proofs.lemmas.Progress.ProgressLemmas as lemma
 use Rattle.clause_store.proofs.laws.progress_rises_after_back.Goals as goal
 
 pub returns : goal.returns

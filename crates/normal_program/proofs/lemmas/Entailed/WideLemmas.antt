@@ -11,7 +11,7 @@ use Rattle.std.proofs.lemmas.List.Elements.{Contains-get_or}
 use Rattle.clause_store.specs.declared.literal.Lit.{Lit}
 use Rattle.clause_store.specs.Clause.{truth, HoldsIn, AreOver}
 use Rattle.clause_store.specs.Entailment.{AreUnits}
-use Rattle.clause_store.proofs.UnitLemmas.{units_among_fewer}
+use Rattle.clause_store.proofs.lemmas.Units.UnitLemmas.{units_among_fewer}
 use Rattle.normal_program.specs.declared.normal.Normal.{Normal}
 use Rattle.normal_program.specs.declared.spent.SpentTest.{SpentTest}
 use Rattle.normal_program.specs.Normal.{greatest_body_var, first_selector, extension}

@@ -1,6 +1,6 @@
 use Rattle.std.proofs.Common.{◌∙◌, sym, ap₂, subst, ◌<◌, ◌≤◌}
 use Rattle.clause_store.specs.Trail.{Assigned}
-use Rattle.clause_store.proofs.FollowedLemmas.{goes_back}
+use Rattle.clause_store.proofs.lemmas.Trails.FollowedLemmas.{goes_back}
 use Rattle.clause_store.proofs.ReasonLemmas.{way_goes_on, up_to_all}
 use Rattle.clause_store.proofs.trail.Trail.back_to.Goals as goal
 

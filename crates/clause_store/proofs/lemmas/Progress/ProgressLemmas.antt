@@ -13,8 +13,9 @@ use Rattle.clause_store.specs.Progress.{count_at, level_digit, progress, HasGone
 use Rattle.clause_store.specs.ProgressLaws.{ProgressIsBounded, ProgressRises}
 use Rattle.clause_store.specs.ProgressLaws.{ProgressRisesAfterBack, PresentAfterBack}
 use Rattle.clause_store.proofs.BackLemmas.{rises_above}
-use Rattle.clause_store.proofs.CountLemmas.{numeral_less, numeral_small, count_append, count_none}
-use Rattle.clause_store.proofs.CountLemmas.{count_first, count_few, count_up_to}
+use Rattle.clause_store.proofs.lemmas.Progress.CountLemmas.{numeral_less, numeral_small}
+use Rattle.clause_store.proofs.lemmas.Progress.CountLemmas.{count_append, count_none}
+use Rattle.clause_store.proofs.lemmas.Progress.CountLemmas.{count_first, count_few, count_up_to}
 use Rattle.clause_store.proofs.StepLemmas.{end_level, trail_fits, level_fits, next_level-ge}
 use Rattle.clause_store.proofs.StepLemmas.{next_level-le}
 

@@ -19,7 +19,7 @@ use Rattle.clause_store.specs.HistoryLaws.{HistoriesCompose, HistoriesAdd, Histo
 use Rattle.clause_store.specs.HistoryLaws.{HistoryTakesCounted}
 use Rattle.clause_store.proofs.EntailmentLemmas.{refuting_grows, refuted_follows}
 use Rattle.clause_store.proofs.LiteralLemmas.{all_through}
-use Rattle.clause_store.proofs.UnitLemmas.{unit_among_fewer, more_clauses_push}
+use Rattle.clause_store.proofs.lemmas.Units.UnitLemmas.{unit_among_fewer, more_clauses_push}
 
 -- ---- units
 
