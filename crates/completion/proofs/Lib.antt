@@ -6,6 +6,8 @@ pub mod SupportLemmas
 pub mod EntailedLemmas
 pub mod ModelLemmas
 pub mod AddLemmas
+pub mod DraftLemmas
+pub mod AddsLemmas
 pub mod GainLemmas
 pub mod RowLemmas
 pub mod OverLemmas

@@ -2,10 +2,11 @@
 #![tactic(auto)]
 
 mod body_clauses;
-mod clean_clauses;
 mod completing;
+mod draft;
 mod laws;
 mod rule_clauses;
+mod short_clauses;
 mod support_clauses;
 
 pub use completing::complete;

@@ -1,7 +1,7 @@
 use Rattle.std.proofs.Common.{map, take}
 use Rattle.normal_program.specs.Clauses.{negative, alone, cleaned}
 use Rattle.completion.specs.Filling.{Gains}
-use Rattle.completion.proofs.rule_clauses.add_false.Given as goal
+use Rattle.completion.proofs.short_clauses.add_false.Given as goal
 
 abbrev pub invariant-loop-atom : goal.invariant-loop-atom
 invariant-loop-atom l =

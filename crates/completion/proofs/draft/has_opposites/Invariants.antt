@@ -2,7 +2,7 @@ use Rattle.std.proofs.Common.{◌≡◌, false, take}
 use Rattle.std.specs.List.{list_any}
 use Rattle.clause_store.specs.Clause.{negation}
 use Rattle.normal_program.specs.Clauses.{has_lit}
-use Rattle.completion.proofs.clean_clauses.has_opposites.Given as goal
+use Rattle.completion.proofs.draft.has_opposites.Given as goal
 
 abbrev pub invariant-loop-lit : goal.invariant-loop-lit
 invariant-loop-lit l =
