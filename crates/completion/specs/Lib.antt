@@ -1,4 +1,3 @@
-pub mod Completion
 pub mod Filling
 pub mod Drafts
 pub mod Rows

@@ -19,9 +19,10 @@ use Rattle.normal_program.specs.Body.{is_conjunctive, full_weight, part_weight, 
 use Rattle.normal_program.specs.Body.{body_holds}
 use Rattle.normal_program.specs.Clauses.{positive, negative, all_clauses}
 use Rattle.normal_program.proofs.SumLemmas.{sum_by-agree}
-use Rattle.completion.proofs.TruthLemmas.{makes_true-positive, makes_true-negative}
-use Rattle.completion.proofs.TruthLemmas.{makes_true-negation, HoldsIn-here, HoldsIn-there}
-use Rattle.completion.proofs.TruthLemmas.{HoldsIn-cases, HoldsIn-by}
+use Rattle.normal_program.proofs.lemmas.Base.TruthLemmas.{makes_true-positive, makes_true-negative}
+use Rattle.normal_program.proofs.lemmas.Base.TruthLemmas.{makes_true-negation, HoldsIn-here}
+use Rattle.normal_program.proofs.lemmas.Base.TruthLemmas.{HoldsIn-there}
+use Rattle.normal_program.proofs.lemmas.Base.TruthLemmas.{HoldsIn-cases, HoldsIn-by}
 
 -- where a sum reaches one that is nowhere less, they agree everywhere
 same_terms : {X : Type 0} (f g : X → ℕ) → ((x : X) → f x ≤ g x) → (xs : List X)

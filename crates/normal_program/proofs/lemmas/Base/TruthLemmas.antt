@@ -23,6 +23,20 @@ no_odd var = omega arith
 no_half : (var : ℕ) → (2 * var + 1) / 2 ≡ var
 no_half var = omega arith
 
+-- the variables of literals
+pub variable-positive : (var : ℕ) → variable (positive var) ≡ var
+variable-positive var = omega arith
+
+pub variable-negative : (var : ℕ) → variable (negative var) ≡ var
+variable-negative var = omega arith
+
+pub variable-literal_of : (lit : AtomLit) → variable (literal_of lit) ≡ lit.atom
+variable-literal_of lit = by lit.negated
+  where
+    by : (b : Bool) → variable (if b then negative lit.atom else positive lit.atom) ≡ lit.atom
+    by true = variable-negative lit.atom
+    by false = variable-positive lit.atom
+
 module _ (values : List Bool) where
   -- the literals of a variable
   pub makes_true-positive : (var : ℕ) → makes_true values (positive var) ≡ truth values var

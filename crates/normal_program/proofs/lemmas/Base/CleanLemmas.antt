@@ -12,7 +12,7 @@ use Rattle.clause_store.proofs.LiteralLemmas.{lit_of_code, cases_lit, has_first,
 use Rattle.clause_store.proofs.LiteralLemmas.{first_or_later, has_kept, has_mapped, mapped_from}
 use Rattle.clause_store.proofs.LiteralLemmas.{any_through}
 use Rattle.normal_program.specs.Clauses.{is_lit, has_lit, each_once, is_tautology, cleaned}
-use Rattle.completion.proofs.TruthLemmas.{makes_true-negation, HoldsIn-by}
+use Rattle.normal_program.proofs.lemmas.Base.TruthLemmas.{makes_true-negation, HoldsIn-by}
 
 module _ {X : Type 0} where
   -- what a filter keeps was there
@@ -98,7 +98,7 @@ module _ (values : List Bool) where
       (each_of (each_once clause) clause (once_from clause)) (λ lit true_one. true_one) holds
 
   -- a literal that a test finds is there
-  has_lit-Contains : (clause : List Lit) (lit : Lit) → has_lit clause lit ≡ true
+  pub has_lit-Contains : (clause : List Lit) (lit : Lit) → has_lit clause lit ≡ true
       → Contains clause lit
   has_lit-Contains clause lit found =
       let some = Any-from_list_any (is_lit lit) clause found in

@@ -21,8 +21,9 @@ use Rattle.normal_program.specs.Normal.{body_var, RuleBodyHolds, KeepsN}
 use Rattle.normal_program.specs.Clauses.{positive, negative, is_choice}
 use Rattle.normal_program.specs.Loop.{IsAtomOf}
 use Rattle.normal_program.proofs.ListLemmas.{IsSomeAnd-found}
-use Rattle.completion.proofs.TruthLemmas.{makes_true-positive, makes_true-negative, HoldsIn-here}
-use Rattle.completion.proofs.TruthLemmas.{HoldsIn-there, HoldsIn-cases, HoldsIn-by}
+use Rattle.normal_program.proofs.lemmas.Base.TruthLemmas.{makes_true-positive, makes_true-negative}
+use Rattle.normal_program.proofs.lemmas.Base.TruthLemmas.{HoldsIn-here}
+use Rattle.normal_program.proofs.lemmas.Base.TruthLemmas.{HoldsIn-there, HoldsIn-cases, HoldsIn-by}
 
 -- an assignment reads a set: the variables of atoms and bodies are as in the extension of the set
 pub record Reads (normal : Normal) (values set : List Bool) : Type 0 where

@@ -23,12 +23,13 @@ use Rattle.normal_program.specs.Body.{part_weight, weight_of, BodyHoldsN}
 use Rattle.normal_program.specs.Normal.{body_var, RuleBodyHolds, KeepsN, IsAnswerSetN}
 use Rattle.normal_program.specs.Clauses.{positive, negative, has_atom, support_clause}
 use Rattle.normal_program.specs.Loop.{IsAtomOf}
-use Rattle.completion.proofs.TruthLemmas.{makes_true-positive, makes_true-negative, HoldsIn-here}
-use Rattle.completion.proofs.TruthLemmas.{HoldsIn-there, HoldsIn-by}
-use Rattle.completion.proofs.RuleLemmas.{Reads, holds-truth}
+use Rattle.normal_program.proofs.lemmas.Base.TruthLemmas.{makes_true-positive, makes_true-negative}
+use Rattle.normal_program.proofs.lemmas.Base.TruthLemmas.{HoldsIn-here}
+use Rattle.normal_program.proofs.lemmas.Base.TruthLemmas.{HoldsIn-there, HoldsIn-by}
+use Rattle.normal_program.proofs.lemmas.Base.RuleLemmas.{Reads, holds-truth}
 
 -- a weight counts no less where its test is true as well
-weight-mono : (small great : Bool) (n : ℕ) → (small ≡ true → great ≡ true)
+pub weight-mono : (small great : Bool) (n : ℕ) → (small ≡ true → great ≡ true)
     → (if small then n else 0) ≤ (if great then n else 0)
 weight-mono true true n more = omega arith
 weight-mono true false n more = let e : false ≡ true = more refl in cc
@@ -44,20 +45,21 @@ holds-more by part whole body more holds =
     omega (arith, holds, weighs)
 
 -- whether a body holds is decided
-holds-decided : (by set : List Bool) (o : Option BodyOf)
+pub holds-decided : (by set : List Bool) (o : Option BodyOf)
     → IsSomeAnd o (BodyHoldsN by set) ⊎ (IsSomeAnd o (BodyHoldsN by set) → ⊥)
 holds-decided by set None = inr (λ fact. fact)
 holds-decided by set (Some body) =
     ⊎_elim (λ low. inr (λ holds. omega (arith, low, holds))) (λ high. inl high)
     (cases_lt (weight_of by set body) body.bound)
 
-some-more : (by part whole : List Bool) (o : Option BodyOf) → IsPart part whole
+-- so does that of a rule
+pub some-more : (by part whole : List Bool) (o : Option BodyOf) → IsPart part whole
     → IsSomeAnd o (BodyHoldsN by part) → IsSomeAnd o (BodyHoldsN by whole)
 some-more by part whole None more holds = holds
 some-more by part whole (Some body) more holds = holds-more by part whole body more holds
 
 -- heads hold in a set with the same truth values on them
-heads-same : (kind : Kind) (set part : List Bool) (heads : List ℕ)
+pub heads-same : (kind : Kind) (set part : List Bool) (heads : List ℕ)
     → All (λ head. has part head ≡ has set head) heads → HeadHolds kind set set heads
     → HeadHolds kind set part heads
 heads-same Basic set part heads same holds = λ k d h. same k d h ∙ holds k d h
@@ -74,7 +76,7 @@ heads-same Disjunctive set part heads same some = (
 )
 
 -- no head is an atom that a search doesn't find
-not-found : (heads : List ℕ) (atom : ℕ) → has_atom heads atom ≡ false
+pub not-found : (heads : List ℕ) (atom : ℕ) → has_atom heads atom ≡ false
     → All (λ head. head ≢ atom) heads
 not-found heads atom none k d h same =
     both_ways (has_atom heads atom) none

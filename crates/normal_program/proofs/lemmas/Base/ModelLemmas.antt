@@ -27,13 +27,15 @@ use Rattle.normal_program.specs.Limit.{IsNormal}
 use Rattle.normal_program.specs.Loop.{IsAtomOf}
 use Rattle.normal_program.specs.Range.{IsInRange}
 use Rattle.normal_program.proofs.RangeLemmas.{IsNormal-in_range}
-use Rattle.completion.specs.Completion.{MakeModels}
-use Rattle.normal_program.specs.Models.{IsAssignmentOf, set_of, MeansWeightBodies, IsModelOf}
-use Rattle.completion.proofs.TruthLemmas.{makes_true-positive, makes_true-negative, HoldsIn-cases}
-use Rattle.completion.proofs.CleanLemmas.{flat_has, hold_from_cleaned}
-use Rattle.completion.proofs.BodyLemmas.{holds-all, all-holds, all_clauses-forth, all_clauses-back}
-use Rattle.completion.proofs.EntailedLemmas.{literals-count, count-literals}
-use Rattle.completion.proofs.RuleLemmas.{Reads, choice-kept, rule_clause-keeps}
+use Rattle.normal_program.specs.Models.{IsAssignmentOf, set_of, front_of, MeansWeightBodies}
+use Rattle.normal_program.specs.Models.{IsModelOf, MakeModels}
+use Rattle.normal_program.proofs.lemmas.Base.TruthLemmas.{makes_true-positive, makes_true-negative}
+use Rattle.normal_program.proofs.lemmas.Base.TruthLemmas.{HoldsIn-cases}
+use Rattle.normal_program.proofs.lemmas.Base.CleanLemmas.{flat_has, hold_from_cleaned}
+use Rattle.normal_program.proofs.lemmas.Base.BodyLemmas.{holds-all, all-holds, all_clauses-forth}
+use Rattle.normal_program.proofs.lemmas.Base.BodyLemmas.{all_clauses-back}
+use Rattle.normal_program.proofs.lemmas.Base.EntailedLemmas.{literals-count, count-literals}
+use Rattle.normal_program.proofs.lemmas.Base.RuleLemmas.{Reads, choice-kept, rule_clause-keeps}
 
 -- the item of a number stands among the numbered ones
 numbered_has : {X : Type 0} (xs : List X) (number : ℕ) (x : X) → slice_get xs number ≡ Some x
@@ -223,21 +225,15 @@ module _ (normal : Normal) (in_range : IsInRange normal) (values : List Bool)
         ∙ get_or_from_slice_get values 0 false false total.no_variable);
   }
 
-  is_extension : values ≡ extension normal (set_of normal values) (set_of normal values)
-  is_extension =
-      same_lists values
-      ((set_of normal values) ++ map (body_holds (set_of normal values) (set_of normal values))
-      normal.bodies)
-      (omega (
-        arith,
-        total.variables,
-        set_length,
-        length-append (set_of normal values)
-            (map (body_holds (set_of normal values) (set_of normal values)) normal.bodies),
-        length-map normal.bodies
-            (body_holds (set_of normal values) (set_of normal values)),
-      ))
-      (λ k d h. ⊎_elim
+  front_length : length (front_of normal values) ≡ normal.atoms + 1 + length normal.bodies
+  front_length = length-take-le (normal.atoms + 1 + length normal.bodies) values total.variables
+
+  -- what stands at a place of the front stands there in the extension
+  extension_at : (k : ℕ) (d : Bool) → k < normal.atoms + 1 + length normal.bodies
+      → get_or values k d
+      ≡ get_or (extension normal (set_of normal values) (set_of normal values)) k d
+  extension_at k d h =
+      ⊎_elim
       (λ low. sym
       (get_or_append_left (set_of normal values)
       (map (body_holds (set_of normal values) (set_of normal values)) normal.bodies) d k
@@ -245,10 +241,10 @@ module _ (normal : Normal) (in_range : IsInRange normal) (values : List Bool)
       (λ high.
       let nobody : BodyOf = record { bound = 0; parts = [] } in
       let number = k - (normal.atoms + 1) in
-      let within : number < length normal.bodies = omega (arith, h, high, total.variables) in
+      let within : number < length normal.bodies = omega (arith, h, high) in
       let place : length (set_of normal values) + number ≡ k = omega (arith, set_length, high) in
       let place' : k ≡ body_var normal number = omega (arith, high) in
-      get_or_default values k d false h ∙ ap (truth values) place'
+      get_or_default values k d false (omega (arith, h, total.variables)) ∙ ap (truth values) place'
       ∙ body_read number (get_or normal.bodies number nobody)
       (slice_get-get_or normal.bodies number nobody within)
       ∙ sym
@@ -262,7 +258,25 @@ module _ (normal : Normal) (in_range : IsInRange normal) (values : List Bool)
       ∙ get_or-map
       (body_holds (set_of normal values) (set_of normal values))
       normal.bodies number nobody d within))
-      (cases_lt k (normal.atoms + 1)))
+      (cases_lt k (normal.atoms + 1))
+
+  is_extension : front_of normal values
+      ≡ extension normal (set_of normal values) (set_of normal values)
+  is_extension =
+      same_lists (front_of normal values)
+      (extension normal (set_of normal values) (set_of normal values))
+      (omega (
+        arith,
+        front_length,
+        set_length,
+        length-append (set_of normal values)
+            (map (body_holds (set_of normal values) (set_of normal values)) normal.bodies),
+        length-map normal.bodies
+            (body_holds (set_of normal values) (set_of normal values)),
+      ))
+      (λ k d h. get_or-take (normal.atoms + 1 + length normal.bodies) values k d
+      (omega (arith, h, front_length))
+      ∙ extension_at k d (omega (arith, h, front_length)))
 
   is_model : IsModelOf normal values
   is_model =

@@ -28,12 +28,12 @@ use Rattle.normal_program.specs.Limit.{IsNormal}
 use Rattle.normal_program.specs.Loop.{IsAtomOf}
 use Rattle.normal_program.specs.Range.{IsInRange}
 use Rattle.normal_program.proofs.RangeLemmas.{IsNormal-in_range, All-unmap}
-use Rattle.completion.proofs.TruthLemmas.{makes_true-positive, makes_true-negative}
-use Rattle.completion.proofs.TruthLemmas.{makes_true-literal_of, HoldsIn-here}
-use Rattle.completion.proofs.CleanLemmas.{flat_from, cleaned_hold}
-use Rattle.completion.proofs.BodyLemmas.{holds-all, all-holds, all_clauses-hold}
-use Rattle.completion.proofs.RuleLemmas.{Reads, rule_clause-holds}
-use Rattle.completion.proofs.SupportLemmas.{support_clause-holds}
+use Rattle.normal_program.proofs.lemmas.Base.TruthLemmas.{makes_true-positive, makes_true-negative}
+use Rattle.normal_program.proofs.lemmas.Base.TruthLemmas.{makes_true-literal_of, HoldsIn-here}
+use Rattle.normal_program.proofs.lemmas.Base.CleanLemmas.{flat_from, cleaned_hold}
+use Rattle.normal_program.proofs.lemmas.Base.BodyLemmas.{holds-all, all-holds, all_clauses-hold}
+use Rattle.normal_program.proofs.lemmas.Base.RuleLemmas.{Reads, rule_clause-holds}
+use Rattle.normal_program.proofs.lemmas.Base.SupportLemmas.{support_clause-holds}
 
 -- an item stands at its number
 pub numbered_at : {X : Type 0} (xs : List X) (item : ℕ × X) → Contains (enumerate_from 0 xs) item

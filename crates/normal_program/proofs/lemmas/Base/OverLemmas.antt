@@ -24,9 +24,10 @@ use Rattle.normal_program.specs.Limit.{IsNormal}
 use Rattle.normal_program.specs.Loop.{IsAtomOf}
 use Rattle.normal_program.specs.Range.{IsInRange}
 use Rattle.normal_program.proofs.RangeLemmas.{IsNormal-in_range}
-use Rattle.completion.proofs.CleanLemmas.{once_from}
-use Rattle.completion.proofs.GainLemmas.{variable-positive, variable-negative, variable-literal_of}
-use Rattle.completion.proofs.EntailedLemmas.{numbered_at, numbers_within}
+use Rattle.normal_program.proofs.lemmas.Base.CleanLemmas.{once_from}
+use Rattle.normal_program.proofs.lemmas.Base.TruthLemmas.{variable-positive, variable-negative}
+use Rattle.normal_program.proofs.lemmas.Base.TruthLemmas.{variable-literal_of}
+use Rattle.normal_program.proofs.lemmas.Base.EntailedLemmas.{numbered_at, numbers_within}
 
 -- all items of many lists are what those of each are
 all_flat : {X Y : Type 0} (P : X → Type 0) (f : Y → List X) (ys : List Y)
