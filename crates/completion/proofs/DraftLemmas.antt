@@ -1,11 +1,11 @@
 -- The marks of a draft go with its literals.
 use Rattle.std.proofs.Common.{◌≡◌, ◌≢◌, ◌≤◌, ◌<◌, ◌+◌, ℕ, zero, suc, Bool, true, false, ◌||◌, eqb}
-use Rattle.std.proofs.Common.{if◌then◌else◌, List, [], ◌∷◌, ◌++◌, length, get_or, slice_set, take, map}
+use Rattle.std.proofs.Common.{if◌then◌else◌, List, [], ◌∷◌, ◌++◌, length, get_or, slice_set, take, map, filter}
 use Rattle.std.proofs.Common.{length-set, get_or-set_same, get_or-set_other, All, AllPairs, refl, sym}
-use Rattle.std.proofs.Common.{ap, subst, ◌∙◌, arith, ⊎_elim, Result, Ok, Err}
+use Rattle.std.proofs.Common.{ap, subst, ◌∙◌, arith, ⊎_elim, cond, append-nil}
 use Rattle.std.proofs.lemmas.Bool.{cases_eq, cases_lt, cases_Bool, eq-eqb, ne_eqb, both_ways}
 use Rattle.std.proofs.lemmas.List.{take_more, map-append, get_or_past}
-use Rattle.std.proofs.lemmas.List.Elements.{All-append, All-cons, All-nil}
+use Rattle.std.proofs.lemmas.List.Elements.{All-append, All-cons, All-nil, filter-append}
 use Rattle.std.proofs.lemmas.List.Folds.{list_any-append}
 use Rattle.std.proofs.lemmas.List.Quantifiers.{all_pairs_push}
 use Rattle.clause_store.specs.declared.literal.Lit.{Lit}
@@ -165,3 +165,31 @@ map_more f xs at x within here =
 pub finished-cleaned : (lits raw : List Lit) → lits ≡ each_once raw
     → finished lits ≡ cleaned (raw ∷ [])
 finished-cleaned lits raw same = ap finished same ∙ sym (cleaned-one raw)
+
+-- the literals that a function makes of the first items that a test keeps
+pub kept_pushed : {X : Type 0} (f : X → Lit) (p : X → Bool) (xs : List X) (at : ℕ) (x : X)
+    (old new : List Lit) → at < length xs → x ≡ get_or xs at x
+    → old ≡ each_once (map f (filter p (take at xs)))
+    → new ≡ (if p x then with_lit old (f x) else old)
+    → new ≡ each_once (map f (filter p (take (at + 1) xs)))
+kept_pushed f p xs at x old new within here was put = by (p x) refl
+  where
+    split : map f (filter p (take (at + 1) xs))
+        ≡ map f (filter p (take at xs)) ++ map f (filter p (x ∷ []))
+    split =
+        ap (λ ys. map f (filter p ys))
+        (take_more xs at x within ∙ ap (λ y. take at xs ++ y ∷ []) (sym here))
+        ∙ ap (map f) (filter-append p (take at xs) (x ∷ []))
+        ∙ map-append f (filter p (take at xs)) (filter p (x ∷ []))
+
+    by : (b : Bool) → p x ≡ b → new ≡ each_once (map f (filter p (take (at + 1) xs)))
+    by true e =
+        pushed old new (map f (filter p (take at xs))) (map f (filter p (take (at + 1) xs))) (f x)
+        was (put ∙ ap (λ b. if b then with_lit old (f x) else old) e)
+        (split ∙ ap (λ b. map f (filter p (take at xs)) ++ map f (cond b (x ∷ []) [])) e)
+    by false e =
+        put ∙ ap (λ b. if b then with_lit old (f x) else old) e ∙ was
+        ∙ ap each_once
+        (sym
+        (split ∙ ap (λ b. map f (filter p (take at xs)) ++ map f (cond b (x ∷ []) [])) e
+        ∙ append-nil (map f (filter p (take at xs)))))

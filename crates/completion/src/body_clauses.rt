@@ -3,7 +3,7 @@ ghost use Rattle.std.specs.Prelude.{◌≡◌, ◌≤◌, [], ◌∷◌, map, fl
 ghost use Rattle.std.specs.Prelude.{if◌then◌else◌};
 ghost use Rattle.clause_store.specs.Clause.{variable, negation};
 ghost use Rattle.normal_program.specs.Body.{is_conjunctive};
-ghost use Rattle.normal_program.specs.Clauses.{positive, negative, literal_of, literals_of};
+ghost use Rattle.normal_program.specs.Clauses.{positive, negative, literals_of};
 ghost use Rattle.normal_program.specs.Clauses.{all_clauses, body_clauses, numbered_bodies, cleaned};
 ghost use Rattle.normal_program.specs.Range.{IsInRange};
 ghost use Rattle.completion.specs.Filling.{Adds, IsVar};
@@ -11,8 +11,7 @@ ghost use Rattle.completion.specs.Filling.{Adds, IsVar};
 use crate::draft::Draft;
 use crate::short_clauses::add_two;
 use clause_store::{Lit, NoMemory, Store, Var};
-use ground_program::AtomLit;
-use normal_program::{BodyOf, Normal, Part};
+use normal_program::{BodyOf, Normal, Part, literal_of};
 use std::alloc::Global;
 
 /// Adds the clauses of all conjunctive bodies.
@@ -44,25 +43,11 @@ fn add_body(
     ensures { Adds result store.old store.new (cleaned
         (if is_conjunctive body.now then all_clauses var.0 (literals_of body.now.parts) else [])) }
 {
-    if !asks_for_all(body) {
+    if !body.is_conjunctive() {
         return Ok(());
     }
     read_literals(lits, body.parts.as_slice())?;
     define(alloc, draft, store, var, lits.as_slice())
-}
-
-/// Whether a body is conjunctive.
-pub fn asks_for_all(body: &BodyOf) -> bool
-    ensures { result ≡ is_conjunctive body.now }
-{
-    let mut left = u64::from(body.bound);
-    for part in body.parts.as_slice() {
-        if part.weight == 0 || part.weight > left {
-            return false;
-        }
-        left -= part.weight;
-    }
-    left == 0
 }
 
 // Makes the literals of a body.
@@ -72,22 +57,9 @@ fn read_literals(lits: &mut Vec<Lit>, parts: &[Part]) -> Result<(), NoMemory>
 {
     lits.clear();
     for part in parts {
-        lits.push(literal(&part.lit))?;
+        lits.push(literal_of(part.lit))?;
     }
     Ok(())
-}
-
-/// The literal of a clause for a literal of a body.
-pub fn literal(lit: &AtomLit) -> Lit
-    requires { IsVar lit.now.atom }
-    ensures { result ≡ literal_of lit.now }
-{
-    let var = Var(lit.atom);
-    if lit.negated {
-        var.negative()
-    } else {
-        var.positive()
-    }
 }
 
 /// The variable is true exactly where all literals are.
@@ -138,8 +110,7 @@ fn all_or_false(
     ensures { Adds result store.old store.new
         (cleaned ((positive var.0 ∷ map negation lits.now) ∷ [])) }
 {
-    draft.begin();
-    draft.push(var.positive())?;
+    draft.start(var.positive())?;
     for lit in lits {
         draft.push(lit.negated())?;
     }

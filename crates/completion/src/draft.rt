@@ -1,6 +1,6 @@
 // A clause while it is built. A table with a mark for each literal tells which ones it has, and
 // only their marks are taken away for the next clause. So a clause costs time for its literals.
-ghost use Rattle.std.specs.Prelude.{◌≡◌, ◌≤◌, ◌<◌, [], ℕ, All, OnOk, vec_len};
+ghost use Rattle.std.specs.Prelude.{◌≡◌, ◌≤◌, ◌<◌, [], ◌∷◌, ℕ, All, OnOk, vec_len};
 ghost use Rattle.clause_store.specs.Clause.{variable};
 ghost use Rattle.normal_program.specs.Clauses.{is_tautology};
 ghost use Rattle.completion.specs.Filling.{Adds};
@@ -45,6 +45,15 @@ impl Draft {
         ensures { self.new ≡ [] }
     {
         unmark(&mut self.marks, &mut self.lits);
+    }
+
+    /// Begins a new clause with this literal.
+    pub fn start(&mut self, lit: Lit) -> Result<(), NoMemory>
+        requires { 1 ≤ variable lit }
+        ensures { OnOk result (self.new ≡ lit ∷ []) }
+    {
+        self.begin();
+        self.push(lit)
     }
 
     /// Puts a literal last, unless the clause has it.

@@ -67,8 +67,7 @@ fn add_heads(
     ensures { Adds result store.old store.new
         (cleaned ((negative var.0 ∷ map positive heads.now) ∷ [])) }
 {
-    draft.begin();
-    draft.push(var.negative())?;
+    draft.start(var.negative())?;
     for head in heads {
         draft.push(Var(*head).positive())?;
     }

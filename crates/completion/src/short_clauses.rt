@@ -14,8 +14,7 @@ pub fn add_alone(alloc: Global, draft: &mut Draft, store: &mut Store, lit: Lit)
     requires { 1 ≤ variable lit }
     ensures { Adds result store.old store.new (cleaned (alone lit ∷ [])) }
 {
-    draft.begin();
-    draft.push(lit)?;
+    draft.start(lit)?;
     draft.add_to(alloc, store)
 }
 
@@ -26,8 +25,7 @@ pub fn add_two(alloc: Global, draft: &mut Draft, store: &mut Store, one: Lit, tw
     requires two { 1 ≤ variable two }
     ensures { Adds result store.old store.new (cleaned ((one ∷ two ∷ []) ∷ [])) }
 {
-    draft.begin();
-    draft.push(one)?;
+    draft.start(one)?;
     draft.push(two)?;
     draft.add_to(alloc, store)
 }

@@ -39,8 +39,7 @@ fn add_support(
     requires bodies { All (λ lit. 1 ≤ variable lit) bodies.now }
     ensures { Adds result store.old store.new (cleaned ((negative atom ∷ bodies.now) ∷ [])) }
 {
-    draft.begin();
-    draft.push(Var(atom).negative())?;
+    draft.start(Var(atom).negative())?;
     for body in bodies {
         draft.push(*body)?;
     }
