@@ -16,6 +16,3 @@ pub use normal_program::{
     base_clauses_are_entailed, base_clauses_are_over_atoms_and_bodies, base_clauses_make_models,
 };
 pub use within::complete_within;
-
-#[cfg(test)]
-mod tests;

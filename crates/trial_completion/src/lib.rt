@@ -3,6 +3,10 @@
 #![tactic(auto)]
 
 #[cfg(test)]
+mod base_clauses;
+#[cfg(test)]
 mod scene;
 #[cfg(test)]
 mod tests;
+#[cfg(test)]
+mod within;

@@ -1,5 +1,7 @@
+use Rattle.std.proofs.Common.{Bool, List, subst}
 use Rattle.normal_program.proofs.RangeLemmas.{IsNormal-in_range}
 use Rattle.normal_program.specs.Spent.{inner_clauses}
+use Rattle.completion.specs.Filling.{Adds}
 use Rattle.completion.proofs.AddsLemmas.{Adds-ok, Adds-err}
 use Rattle.completion.proofs.GainLemmas.{gain_keeps_trails}
 use Rattle.completion.proofs.InnerOverLemmas.{inner_clauses-over}
@@ -27,9 +29,13 @@ returns-clause-make c values total met =
 
 pub returns-clause-trails : goal.returns-clause-trails
 returns-clause-trails c =
-    gain_keeps_trails c.add_within.result c.args.store.now c.add_within.new.store
-    (inner_clauses c.args.normal.now c.args.set.now)
-    (Adds-ok c.add_within.result c.args.store.now c.add_within.new.store _
-    c.add_within.ensures)
-    (Adds-err c.add_within.result c.args.store.now c.add_within.new.store _
-    c.add_within.ensures)
+    let old = c.args.store.now in
+    let new = c.add_within.new.store in
+    let clauses = inner_clauses c.args.normal.now c.args.set.now in
+    let adds : Adds c.add_within.result old new clauses =
+    subst
+    (λ (set : List Bool). Adds c.add_within.result old new (inner_clauses c.args.normal.now set))
+    c.as_slice.ensures c.add_within.ensures in
+    gain_keeps_trails c.add_within.result old new clauses
+    (Adds-ok c.add_within.result old new clauses adds)
+    (Adds-err c.add_within.result old new clauses adds)
