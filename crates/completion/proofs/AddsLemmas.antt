@@ -1,5 +1,6 @@
 -- Calls that add clauses, one after another and in loops.
-use Rattle.std.proofs.Common.{ℕ, ◌≡◌, ◌<◌, ◌+◌, Result, Ok, Err, OnOk, OnErr, IsErr, List, [], ◌∷◌, ◌++◌}
+use Rattle.std.proofs.Common.{ℕ, ◌≡◌, ◌<◌, ◌+◌, Result, Ok, Err, OnOk, OnErr, IsErr, List, [], ◌∷◌}
+use Rattle.std.proofs.Common.{◌++◌}
 use Rattle.std.proofs.Common.{length, get_or, map, filter, flat_map, take, refl, sym, ap, subst}
 use Rattle.std.proofs.Common.{◌∙◌, arith, Bool, true, false, cond, if◌then◌else◌}
 use Rattle.std.proofs.lemmas.List.{map-append}

@@ -1,7 +1,9 @@
 -- The marks of a draft go with its literals.
 use Rattle.std.proofs.Common.{◌≡◌, ◌≢◌, ◌≤◌, ◌<◌, ◌+◌, ℕ, zero, suc, Bool, true, false, ◌||◌, eqb}
-use Rattle.std.proofs.Common.{if◌then◌else◌, List, [], ◌∷◌, ◌++◌, length, get_or, slice_set, take, map, filter}
-use Rattle.std.proofs.Common.{length-set, get_or-set_same, get_or-set_other, All, AllPairs, refl, sym}
+use Rattle.std.proofs.Common.{if◌then◌else◌, List, [], ◌∷◌, ◌++◌, length, get_or, slice_set, take}
+use Rattle.std.proofs.Common.{map, filter}
+use Rattle.std.proofs.Common.{length-set, get_or-set_same, get_or-set_other, All, AllPairs, refl}
+use Rattle.std.proofs.Common.{sym}
 use Rattle.std.proofs.Common.{ap, subst, ◌∙◌, arith, ⊎_elim, cond, append-nil}
 use Rattle.std.proofs.lemmas.Bool.{cases_eq, cases_lt, cases_Bool, eq-eqb, ne_eqb, both_ways}
 use Rattle.std.proofs.lemmas.List.{take_more, map-append, get_or_past}

@@ -1,7 +1,8 @@
 -- What bodies and rules say in an assignment that reads a part of a set, where the set judges the
 -- negative literals.
 use Rattle.std.proofs.Common.{◌≡◌, ◌≤◌, ◌<◌, ℕ, Bool, true, false, not, ◌&&◌, List, [], ◌∷◌, Option}
-use Rattle.std.proofs.Common.{Some, None, IsSomeAnd, slice_get, length, get_or, map, filter, All, Any}
+use Rattle.std.proofs.Common.{Some, None, IsSomeAnd, slice_get, length, get_or, map, filter, All}
+use Rattle.std.proofs.Common.{Any}
 use Rattle.std.proofs.Common.{Contains, refl, sym, ap, subst, ◌∙◌, arith, ⊎_elim, true≢false}
 use Rattle.std.proofs.Common.{if◌then◌else◌}
 use Rattle.std.proofs.lemmas.Bool.{cases_Bool, both_ways, leb-true, le-leb, and_parts, not-true}

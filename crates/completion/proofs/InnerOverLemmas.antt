@@ -1,6 +1,7 @@
 -- The variables of the clauses for the parts of a set are those of atoms and bodies.
 use Rattle.std.proofs.Common.{◌≤◌, ◌<◌, ℕ, Bool, true, false, not, List, [], ◌∷◌, ◌++◌, Some}
-use Rattle.std.proofs.Common.{slice_get, length, get_or, map, filter, flat_map, All, ◌≡◌, subst, arith}
+use Rattle.std.proofs.Common.{slice_get, length, get_or, map, filter, flat_map, All, ◌≡◌, subst}
+use Rattle.std.proofs.Common.{arith}
 use Rattle.std.proofs.Common.{if◌then◌else◌}
 use Rattle.std.proofs.lemmas.List.Elements.{All-nil, All-cons, All-append, All-map, All-filter}
 use Rattle.std.proofs.lemmas.List.Elements.{All-weaker, Contains-get_or}

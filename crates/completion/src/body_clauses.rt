@@ -15,8 +15,12 @@ use normal_program::{BodyOf, Normal, Part, literal_of};
 use std::alloc::Global;
 
 /// Adds the clauses of all conjunctive bodies.
-pub fn add_bodies(alloc: Global, normal: &Normal, draft: &mut Draft, store: &mut Store)
-    -> Result<(), NoMemory>
+pub fn add_bodies(
+    alloc: Global,
+    normal: &Normal,
+    draft: &mut Draft,
+    store: &mut Store,
+) -> Result<(), NoMemory>
     requires { IsInRange normal.now }
     ensures { Adds result store.old store.new
         (cleaned (flat_map (body_clauses normal.now) (numbered_bodies normal.now))) }

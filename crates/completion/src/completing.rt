@@ -42,8 +42,12 @@ pub fn complete(alloc: Global, normal: &Normal, store: &mut Store) -> Result<(),
 }
 
 // All base clauses.
-fn complete_whole(alloc: Global, normal: &Normal, draft: &mut Draft, store: &mut Store)
-    -> Result<(), NoMemory>
+fn complete_whole(
+    alloc: Global,
+    normal: &Normal,
+    draft: &mut Draft,
+    store: &mut Store,
+) -> Result<(), NoMemory>
     requires { IsInRange normal.now }
     ensures { Adds result store.old store.new (base_clauses normal.now) }
 {
@@ -52,8 +56,12 @@ fn complete_whole(alloc: Global, normal: &Normal, draft: &mut Draft, store: &mut
 }
 
 // The clauses of bodies, of rules and of the support of atoms.
-fn add_program(alloc: Global, normal: &Normal, draft: &mut Draft, store: &mut Store)
-    -> Result<(), NoMemory>
+fn add_program(
+    alloc: Global,
+    normal: &Normal,
+    draft: &mut Draft,
+    store: &mut Store,
+) -> Result<(), NoMemory>
     requires { IsInRange normal.now }
     ensures { Adds result store.old store.new
         (cleaned (flat_map (body_clauses normal.now) (numbered_bodies normal.now)
@@ -65,8 +73,12 @@ fn add_program(alloc: Global, normal: &Normal, draft: &mut Draft, store: &mut St
 }
 
 // The clauses of bodies and of rules.
-fn add_bodies_and_rules(alloc: Global, normal: &Normal, draft: &mut Draft, store: &mut Store)
-    -> Result<(), NoMemory>
+fn add_bodies_and_rules(
+    alloc: Global,
+    normal: &Normal,
+    draft: &mut Draft,
+    store: &mut Store,
+) -> Result<(), NoMemory>
     requires { IsInRange normal.now }
     ensures { Adds result store.old store.new
         (cleaned (flat_map (body_clauses normal.now) (numbered_bodies normal.now)
@@ -77,8 +89,12 @@ fn add_bodies_and_rules(alloc: Global, normal: &Normal, draft: &mut Draft, store
 }
 
 // The clauses of the compute statement.
-fn add_compute(alloc: Global, normal: &Normal, draft: &mut Draft, store: &mut Store)
-    -> Result<(), NoMemory>
+fn add_compute(
+    alloc: Global,
+    normal: &Normal,
+    draft: &mut Draft,
+    store: &mut Store,
+) -> Result<(), NoMemory>
     requires { IsInRange normal.now }
     ensures { Adds result store.old store.new (cleaned (compute_clauses normal.now)) }
 {

@@ -128,8 +128,12 @@ fn make_room(marks: &mut Vec<bool>, lit: Lit) -> Result<(), NoMemory>
 }
 
 // Adds a clause to a store, unless it has a literal and its negation.
-fn add_finished(alloc: Global, store: &mut Store, marks: &[bool], lits: &[Lit])
-    -> Result<(), NoMemory>
+fn add_finished(
+    alloc: Global,
+    store: &mut Store,
+    marks: &[bool],
+    lits: &[Lit],
+) -> Result<(), NoMemory>
     requires { IsDraft marks.now lits.now }
     ensures { Adds result store.old store.new (finished lits.now) }
 {

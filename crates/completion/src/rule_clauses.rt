@@ -12,8 +12,12 @@ use normal_program::{Normal, NormalRule};
 use std::alloc::Global;
 
 /// Adds the clauses of all rules that aren't choice rules.
-pub fn add_rules(alloc: Global, normal: &Normal, draft: &mut Draft, store: &mut Store)
-    -> Result<(), NoMemory>
+pub fn add_rules(
+    alloc: Global,
+    normal: &Normal,
+    draft: &mut Draft,
+    store: &mut Store,
+) -> Result<(), NoMemory>
     requires { IsInRange normal.now }
     ensures { Adds result store.old store.new
         (cleaned (flat_map (rule_clauses normal.now) normal.now.rules)) }

@@ -9,8 +9,12 @@ use clause_store::{Lit, NoMemory, Store, Var};
 use std::alloc::Global;
 
 /// Adds the clause of one literal.
-pub fn add_alone(alloc: Global, draft: &mut Draft, store: &mut Store, lit: Lit)
-    -> Result<(), NoMemory>
+pub fn add_alone(
+    alloc: Global,
+    draft: &mut Draft,
+    store: &mut Store,
+    lit: Lit,
+) -> Result<(), NoMemory>
     requires { 1 ≤ variable lit }
     ensures { Adds result store.old store.new (cleaned (alone lit ∷ [])) }
 {
@@ -19,8 +23,13 @@ pub fn add_alone(alloc: Global, draft: &mut Draft, store: &mut Store, lit: Lit)
 }
 
 /// Adds the clause of two literals.
-pub fn add_two(alloc: Global, draft: &mut Draft, store: &mut Store, one: Lit, two: Lit)
-    -> Result<(), NoMemory>
+pub fn add_two(
+    alloc: Global,
+    draft: &mut Draft,
+    store: &mut Store,
+    one: Lit,
+    two: Lit,
+) -> Result<(), NoMemory>
     requires one { 1 ≤ variable one }
     requires two { 1 ≤ variable two }
     ensures { Adds result store.old store.new (cleaned ((one ∷ two ∷ []) ∷ [])) }
@@ -31,8 +40,12 @@ pub fn add_two(alloc: Global, draft: &mut Draft, store: &mut Store, one: Lit, tw
 }
 
 /// Adds the clause of each atom alone.
-pub fn add_true(alloc: Global, draft: &mut Draft, store: &mut Store, atoms: &[u32])
-    -> Result<(), NoMemory>
+pub fn add_true(
+    alloc: Global,
+    draft: &mut Draft,
+    store: &mut Store,
+    atoms: &[u32],
+) -> Result<(), NoMemory>
     requires { All IsVar atoms.now }
     ensures { Adds result store.old store.new
         (cleaned (map (λ atom. alone (positive atom)) atoms.now)) }
@@ -44,8 +57,12 @@ pub fn add_true(alloc: Global, draft: &mut Draft, store: &mut Store, atoms: &[u3
 }
 
 /// Adds the clause of the negation of each atom alone.
-pub fn add_false(alloc: Global, draft: &mut Draft, store: &mut Store, atoms: &[u32])
-    -> Result<(), NoMemory>
+pub fn add_false(
+    alloc: Global,
+    draft: &mut Draft,
+    store: &mut Store,
+    atoms: &[u32],
+) -> Result<(), NoMemory>
     requires { All IsVar atoms.now }
     ensures { Adds result store.old store.new
         (cleaned (map (λ atom. alone (negative atom)) atoms.now)) }

@@ -14,8 +14,12 @@ use normal_program::{Normal, NormalRule};
 use std::alloc::Global;
 
 /// Adds the support clause of each atom.
-pub fn add_supports(alloc: Global, normal: &Normal, draft: &mut Draft, store: &mut Store)
-    -> Result<(), NoMemory>
+pub fn add_supports(
+    alloc: Global,
+    normal: &Normal,
+    draft: &mut Draft,
+    store: &mut Store,
+) -> Result<(), NoMemory>
     requires { IsInRange normal.now }
     ensures { Adds result store.old store.new
         (cleaned (map (support_clause normal.now) (atoms_of_normal normal.now))) }

@@ -27,8 +27,12 @@ use normal_program::{BodyOf, Normal, NormalRule, Part, literal_of};
 use std::alloc::Global;
 
 /// Adds the clauses for the parts of a set. After want of memory the store has the first of them.
-pub fn complete_within(alloc: Global, normal: &Normal, set: &Set, store: &mut Store)
-    -> Result<(), NoMemory>
+pub fn complete_within(
+    alloc: Global,
+    normal: &Normal,
+    set: &Set,
+    store: &mut Store,
+) -> Result<(), NoMemory>
     requires normal { IsNormal normal.now }
     requires set { IsSetOver normal.now.atoms set.now }
     ensures added { OnOk result (store.new ≡ store.old ++ inner_clauses normal.now set.now) }
@@ -279,7 +283,14 @@ fn add_choices(
         (cleaned (flat_map (inner_choice_clauses normal.now set.now) normal.now.rules)) }
 {
     for rule in normal.rules.as_slice() {
-        add_choice(alloc, set, draft, store, Var(normal.atoms + 1 + rule.body), rule)?;
+        add_choice(
+            alloc,
+            set,
+            draft,
+            store,
+            Var(normal.atoms + 1 + rule.body),
+            rule,
+        )?;
     }
     Ok(())
 }
@@ -298,7 +309,7 @@ fn add_choice(
     ensures { Adds result store.old store.new (cleaned
         (if is_choice rule.now.kind
         then map (λ head. negative var.0 ∷ positive head ∷ [])
-            (filter (has set.now) rule.now.heads)
+        (filter (has set.now) rule.now.heads)
         else [])) }
 {
     if !is_choice_rule(rule) {

@@ -17,7 +17,9 @@ returns-in_err-add_bodies_and_rules c =
 pub returns : goal.returns
 returns c =
     let normal = c.args.normal.now in
-    Adds-then c.add_supports.result c.args.store.now c.add_bodies_and_rules.new.store c.add_supports.new.store
+    Adds-then c.add_supports.result c.args.store.now c.add_bodies_and_rules.new.store
+    c.add_supports.new.store
     (flat_map (body_clauses normal) (numbered_bodies normal)
     ++ flat_map (rule_clauses normal) normal.rules)
-    (map (support_clause normal) (atoms_of_normal normal)) c.in_ok-add_bodies_and_rules.ensures c.add_supports.ensures
+    (map (support_clause normal) (atoms_of_normal normal)) c.in_ok-add_bodies_and_rules.ensures
+    c.add_supports.ensures

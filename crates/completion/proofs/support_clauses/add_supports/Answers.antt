@@ -49,7 +49,8 @@ returns-in_err-add_support c =
     let normal = c.args.normal.now in
     let atom = c.loop-atom.atom in
     let last : atom ≤ normal.atoms = omega (arith, c.loop-atom-test.true) in
-    Adds-stopped c.from_residual-in_err-add_support.result c.args.store.now c.add_support.new.store _
+    Adds-stopped c.from_residual-in_err-add_support.result c.args.store.now c.add_support.new.store
+    _
     c.from_residual-in_err-add_support.ensures.0
     (mapped_stopped (support_clause normal) c.args.store.now c.loop-atom.store
     c.add_support.new.store (atoms_of_normal normal) (atom - 1) atom

@@ -19,7 +19,9 @@ pub returns : goal.returns
 returns c =
     let normal = c.args.normal.now in
     let set = c.args.set.now in
-    Adds-then c.add_inner_bodies.result c.args.store.now c.add_atoms.new.store c.add_inner_bodies.new.store
+    Adds-then c.add_inner_bodies.result c.args.store.now c.add_atoms.new.store
+    c.add_inner_bodies.new.store
     (map (λ atom. alone (negative atom)) (atoms_outside normal set)
     ++ map negative (atoms_in normal set) ∷ [])
-    (flat_map (inner_body_clauses normal set) (numbered_bodies normal)) c.in_ok-add_atoms.ensures c.add_inner_bodies.ensures
+    (flat_map (inner_body_clauses normal set) (numbered_bodies normal)) c.in_ok-add_atoms.ensures
+    c.add_inner_bodies.ensures

@@ -12,5 +12,6 @@ returns-in_err-add_choice c =
     c.loop-rule-test.true c.rule-item.is in
     Adds-stopped c.from_residual.result c.args.store.now c.add_choice.new.store _
     c.from_residual.ensures.0
-    (flat_stopped (inner_choice_clauses normal c.args.set.now) c.args.store.now c.loop-rule.store c.add_choice.new.store
+    (flat_stopped (inner_choice_clauses normal c.args.set.now) c.args.store.now c.loop-rule.store
+    c.add_choice.new.store
     normal.rules at rule item c.loop-rule.invariant c.in_err-add_choice.ensures)

@@ -13,7 +13,8 @@ loop-number-preserved c =
     let normal = c.args.normal.now in
     let number = c.loop-number.number in
     let body = c.body-item.result in
-    flat_more (inner_body_clauses normal c.args.set.now) c.args.store.now c.loop-number.store c.add_inner_body.new.store
+    flat_more (inner_body_clauses normal c.args.set.now) c.args.store.now c.loop-number.store
+    c.add_inner_body.new.store
     (numbered_bodies normal) number (number, body)
     (numbered_of c.as_slice-body-items.result.now normal.bodies number body
     c.as_slice-body-items.ensures c.loop-number-test.true c.body-item.is)
@@ -26,7 +27,8 @@ returns-in_err-add_inner_body c =
     let body = c.body-item.result in
     Adds-stopped c.from_residual.result c.args.store.now c.add_inner_body.new.store _
     c.from_residual.ensures.0
-    (flat_stopped (inner_body_clauses normal c.args.set.now) c.args.store.now c.loop-number.store c.add_inner_body.new.store
+    (flat_stopped (inner_body_clauses normal c.args.set.now) c.args.store.now c.loop-number.store
+    c.add_inner_body.new.store
     (numbered_bodies normal) number (number, body)
     (numbered_of c.as_slice-body-items.result.now normal.bodies number body
     c.as_slice-body-items.ensures c.loop-number-test.true c.body-item.is)

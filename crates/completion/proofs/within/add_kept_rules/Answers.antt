@@ -20,8 +20,10 @@ pub returns : goal.returns
 returns c =
     let normal = c.args.normal.now in
     let set = c.args.set.now in
-    Adds-then c.add_rules.result c.args.store.now c.add_atoms_and_bodies.new.store c.add_rules.new.store
+    Adds-then c.add_rules.result c.args.store.now c.add_atoms_and_bodies.new.store
+    c.add_rules.new.store
     (map (λ atom. alone (negative atom)) (atoms_outside normal set)
     ++ map negative (atoms_in normal set) ∷ []
     ++ flat_map (inner_body_clauses normal set) (numbered_bodies normal))
-    (flat_map (rule_clauses normal) normal.rules) c.in_ok-add_atoms_and_bodies.ensures c.add_rules.ensures
+    (flat_map (rule_clauses normal) normal.rules) c.in_ok-add_atoms_and_bodies.ensures
+    c.add_rules.ensures

@@ -1,4 +1,5 @@
-use Rattle.std.proofs.Common.{◌≡◌, ◌≤◌, ◌+◌, ◌-◌, map, filter, take, take_all, subst, ap, ◌∙◌, arith}
+use Rattle.std.proofs.Common.{◌≡◌, ◌≤◌, ◌+◌, ◌-◌, map, filter, take, take_all, subst, ap, ◌∙◌}
+use Rattle.std.proofs.Common.{arith}
 use Rattle.ground_program.specs.Meaning.{has}
 use Rattle.normal_program.specs.Clauses.{negative, atoms_of_normal, each_once}
 use Rattle.normal_program.specs.Spent.{atoms_in}
