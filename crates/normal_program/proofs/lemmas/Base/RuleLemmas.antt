@@ -20,7 +20,7 @@ use Rattle.normal_program.specs.Body.{body_holds, weight_of, BodyHoldsN}
 use Rattle.normal_program.specs.Normal.{body_var, RuleBodyHolds, KeepsN}
 use Rattle.normal_program.specs.Clauses.{positive, negative, is_choice}
 use Rattle.normal_program.specs.Loop.{IsAtomOf}
-use Rattle.normal_program.proofs.ListLemmas.{IsSomeAnd-found}
+use Rattle.item_list.proofs.ListLemmas.{IsSomeAnd-found}
 use Rattle.normal_program.proofs.lemmas.Base.TruthLemmas.{makes_true-positive, makes_true-negative}
 use Rattle.normal_program.proofs.lemmas.Base.TruthLemmas.{HoldsIn-here}
 use Rattle.normal_program.proofs.lemmas.Base.TruthLemmas.{HoldsIn-there, HoldsIn-cases, HoldsIn-by}
