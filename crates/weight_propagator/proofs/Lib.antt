@@ -1,0 +1,4 @@
+pub mod TruthLemmas
+pub mod ValueLemmas
+pub mod ReasonLemmas
+pub mod CaseLemmas
