@@ -1,8 +1,8 @@
 -- What the sums of a body show, and why it gives a clause then.
-use Rattle.std.proofs.Common.{◌≡◌, ◌≢◌, ◌≤◌, ◌<◌, ◌+◌, ◌-◌, ◌*◌, ◌/◌, ◌^◌, ℕ, zero, suc, Bool, true}
+use Rattle.std.proofs.Common.{◌≡◌, ◌≢◌, ◌≤◌, ◌<◌, ◌+◌, ◌*◌, ◌/◌, ℕ, zero, suc, Bool, true}
 use Rattle.std.proofs.Common.{false, cond, eqb, List, [], ◌∷◌, length, get_or, Option, Some, None}
 use Rattle.std.proofs.Common.{refl, sym, ap, ◌∙◌, subst, inl, inr, arith}
-use Rattle.std.specs.Prelude.{All, Any, sum_by, if◌then◌else◌, ◌||◌}
+use Rattle.std.specs.Prelude.{Any, sum_by, if◌then◌else◌, ◌||◌}
 use Rattle.std.proofs.lemmas.Bool.{cases_Bool, eqb-true, eqb-false, eq-eqb, ne_eqb}
 use Rattle.std.proofs.lemmas.List.Sums.{sum_by-cons}
 use Rattle.clause_store.specs.declared.literal.Lit.{Lit}
@@ -18,11 +18,11 @@ use Rattle.weight_propagator.specs.declared.row.Term.{Term}
 use Rattle.weight_propagator.specs.declared.row.Row.{Row}
 use Rattle.weight_propagator.specs.declared.side.Side.{Side}
 use Rattle.weight_propagator.specs.declared.side.Side.TheVariants.{Reached, Missed}
-use Rattle.weight_propagator.specs.Gives.{GivesBy, if_true, unless_true, unless_false}
+use Rattle.weight_propagator.specs.Gives.{if_true, unless_true, unless_false}
 use Rattle.weight_propagator.specs.Gives.GivesBy.{reached, missed, needs, refuses}
-use Rattle.weight_propagator.specs.Rows.{term_value, all_sum, yes_sum, not_no_sum, RowGives}
-use Rattle.weight_propagator.specs.Rows.{IsSized, is_on, is_extra, head, is_taken, taken_sum}
-use Rattle.weight_propagator.specs.Rows.{goal_of, IsCause}
+use Rattle.weight_propagator.specs.Rows.{term_value, all_sum, yes_sum, not_no_sum}
+use Rattle.weight_propagator.specs.Rows.{IsSized, is_on, is_extra, is_taken, taken_sum}
+use Rattle.weight_propagator.specs.Rows.{IsCause}
 use Rattle.weight_propagator.proofs.TruthLemmas.{variable-positive, variable-negative}
 
 -- ---- sums
@@ -170,9 +170,10 @@ module _ (steps : List Step) (row : Row) (sized : IsSized row) where
     gives = missed short not_no;
     enough = omega (arith, short, taken_missed steps row.terms);
     standing =
-        inl
-        (refl,
-        λ is. not_no (flipped_yes _ (sym (value-negative steps row.var.0) ∙ is)));
+        inl (
+          refl,
+          λ is. not_no (flipped_yes _ (sym (value-negative steps row.var.0) ∙ is)),
+        );
   }
 
   some_needs : (lit : Lit) (least : ℕ) → value_of steps lit ≡ Unset
@@ -183,8 +184,7 @@ module _ (steps : List Step) (row : Row) (sized : IsSized row) where
       × (not_no_sum steps row.terms
       < row.bound + unless_false (term_value steps term) term.weight)) row.terms
   some_needs lit least unset short (k, term, within, is, (same, enough)) =
-      let open_one : term_value steps term ≡ Unset = ap (value_of steps) same ∙ unset in
-      (
+      let open_one : term_value steps term ≡ Unset = ap (value_of steps) same ∙ unset in (
         k,
         term,
         within,
@@ -204,8 +204,7 @@ module _ (steps : List Step) (row : Row) (sized : IsSized row) where
       × (row.bound
       ≤ yes_sum steps row.terms + unless_true (term_value steps term) term.weight)) row.terms
   some_refuses lit least unset enough_all (k, term, within, is, (same, enough)) =
-      let open_one : term_value steps term ≡ Unset = ap (value_of steps) same ∙ unset in
-      (
+      let open_one : term_value steps term ≡ Unset = ap (value_of steps) same ∙ unset in (
         k,
         term,
         within,

@@ -1,23 +1,23 @@
 -- A reason grows by one literal, or passes one over.
-use Rattle.std.proofs.Common.{◌≡◌, ◌≢◌, ◌≤◌, ◌<◌, ◌+◌, ◌⊎◌, ℕ, suc, Bool, true, false, not, List}
-use Rattle.std.proofs.Common.{[], ◌∷◌, ◌++◌, length, get_or, take, Option, Some, None, refl, sym, ap}
-use Rattle.std.proofs.Common.{◌∙◌, subst, inl, inr, arith, append_assoc, length-take}
-use Rattle.std.specs.Prelude.{All, Any, AllPairs, Contains, IfSome, sum_by, if◌then◌else◌}
+use Rattle.std.proofs.Common.{◌≡◌, ◌≢◌, ◌≤◌, ◌<◌, ◌+◌, ℕ, Bool, true, false, List}
+use Rattle.std.proofs.Common.{[], ◌∷◌, ◌++◌, length, get_or, take, Option, refl, sym, ap}
+use Rattle.std.proofs.Common.{◌∙◌, arith, append_assoc, length-take}
+use Rattle.std.specs.Prelude.{All, Any, AllPairs, IfSome, sum_by, if◌then◌else◌}
 use Rattle.std.proofs.lemmas.List.{get_or-take, get_or_default, append-nil}
 use Rattle.std.proofs.lemmas.List.Elements.{All-contains, All-nil, All-push, All-weaker}
 use Rattle.std.proofs.lemmas.List.Elements.{Contains-append_left, Contains-push, Contains-get_or}
 use Rattle.std.proofs.lemmas.List.Quantifiers.{all_pairs_push}
 use Rattle.std.proofs.lemmas.List.Sums.{sum_by_more, sum_by-take-le}
 use Rattle.clause_store.specs.declared.literal.Lit.{Lit}
-use Rattle.clause_store.specs.declared.literal.Value.TheVariants.{Yes, No, Unset}
+use Rattle.clause_store.specs.declared.literal.Value.TheVariants.{Unset}
 use Rattle.clause_store.specs.declared.step.Step.{Step}
-use Rattle.clause_store.specs.Clause.{variable, negation, makes_true, HasNoVariableTwice}
+use Rattle.clause_store.specs.Clause.{variable, makes_true}
 use Rattle.clause_store.specs.Trail.{value_of}
 use Rattle.weight_propagator.specs.declared.row.Term.{Term}
 use Rattle.weight_propagator.specs.declared.side.Side.{Side}
 use Rattle.weight_propagator.specs.declared.side.Side.TheVariants.{Reached, Missed}
 use Rattle.weight_propagator.specs.Rows.{is_taken, denial, taken_sum, side_weight, side_sum}
-use Rattle.weight_propagator.specs.Rows.{AreFalseIn, IsReason}
+use Rattle.weight_propagator.specs.Rows.{IsReason}
 use Rattle.weight_propagator.proofs.TruthLemmas.{makes_true-negation, not_false}
 use Rattle.weight_propagator.proofs.ValueLemmas.{taken_same, variable-denial}
 
@@ -42,8 +42,7 @@ denied_weight Missed values term is = ap (λ b. if b then 0 else term.weight) is
 any_more : {X : Type 0} (P : X → Type 0) (xs : List X) (i : ℕ) → Any P (take i xs)
     → Any P (take (i + 1) xs)
 any_more P xs i (k, x, within, is, holds) =
-    let low : k < i = omega (arith, length-take i xs) in
-    (
+    let low : k < i = omega (arith, length-take i xs) in (
       k,
       x,
       omega (arith, length-take i xs, length-take (i + 1) xs),
@@ -88,89 +87,89 @@ module _ (side : Side) (steps : List Step) (extra : Option Lit) (terms : List Te
   }
 
   module _ (i : ℕ) (term : Term) (within : i < length terms) (here : get_or terms i term ≡ term)
-      where
-    here_any : (P : Term → Type 0) → P term → Any P (take (i + 1) terms)
-    here_any P holds = (
-      i,
-      term,
-      omega (arith, length-take (i + 1) terms),
-      get_or-take (i + 1) terms i term (omega arith) ∙ here,
-      holds,
-    )
+    where
+      here_any : (P : Term → Type 0) → P term → Any P (take (i + 1) terms)
+      here_any P holds = (
+        i,
+        term,
+        omega (arith, length-take (i + 1) terms),
+        get_or-take (i + 1) terms i term (omega arith) ∙ here,
+        holds,
+      )
 
-    sum_more : (f : Term → ℕ) → sum_by f (take (i + 1) terms) ≡ sum_by f (take i terms) + f term
-    sum_more f = sum_by_more f terms i term within
-        ∙ ap (λ t. sum_by f (take i terms) + f t) here
+      sum_more : (f : Term → ℕ) → sum_by f (take (i + 1) terms) ≡ sum_by f (take i terms) + f term
+      sum_more f = sum_by_more f terms i term within
+          ∙ ap (λ t. sum_by f (take i terms) + f t) here
 
-    -- a literal is passed over
-    pub reason_passes : (reached : ℕ) (old new : List Lit)
-        → IsReason side steps extra (take i terms) reached old new
-        → IsReason side steps extra (take (i + 1) terms) reached old new
-    reason_passes reached old new is = record {
-      added = is.added;
-      appended = is.appended;
-      taken =
-          All-weaker _ _ (λ lit some. any_more
-          (λ one. (is_taken side steps extra one ≡ true) × (lit ≡ denial side one.lit))
-          terms i some) is.added is.taken;
-      enough = λ values none.
-          let some : reached ≤ side_sum side values (take i terms) = is.enough values none in
-          omega (arith, sum_more (side_weight side values));
-      once = is.once;
-    }
-
-    -- a literal is taken
-    pub reason_takes : (reached : ℕ) (old new : List Lit)
-        → AllPairs (λ one two. one.lit ≢ two.lit) terms
-        → IfSome extra (λ one. value_of steps one ≡ Unset)
-        → is_taken side steps extra term ≡ true
-        → IsReason side steps extra (take i terms) reached old new
-        → IsReason side steps extra (take (i + 1) terms) (reached + term.weight) old
-        (new ++ denial side term.lit ∷ [])
-    reason_takes reached old new distinct unset taken is = record {
-      added = is.added ++ denial side term.lit ∷ [];
-      appended =
-          ap (λ lits. lits ++ denial side term.lit ∷ []) is.appended
-          ∙ append_assoc old is.added (denial side term.lit ∷ []);
-      taken =
-          All-push
-          (λ lit. Any
-          (λ one. (is_taken side steps extra one ≡ true) × (lit ≡ denial side one.lit))
-          (take (i + 1) terms)) is.added (denial side term.lit)
-          (All-weaker _ _ (λ lit some. any_more
-          (λ one. (is_taken side steps extra one ≡ true) × (lit ≡ denial side one.lit))
-          terms i some) is.added is.taken)
-          (here_any
-          (λ one. (is_taken side steps extra one ≡ true)
-          × (denial side term.lit ≡ denial side one.lit)) (taken, refl));
-      enough = λ values none.
-          let some : reached ≤ side_sum side values (take i terms) =
-          is.enough values
-          (All-front (λ lit. makes_true values lit ≡ false) is.added (denial side term.lit ∷ [])
-          none) in
-          let more : side_weight side values term ≡ term.weight =
-          denied_weight side values term
-          (All-last (λ lit. makes_true values lit ≡ false) is.added (denial side term.lit) none) in
-          omega (arith, sum_more (side_weight side values), some, more);
-      once =
-          all_pairs_push (λ one two. variable one ≢ variable two) is.added (denial side term.lit)
-          is.once (λ k d inside same. apart (is.taken k d inside) same);
-    }
-      where
-        apart : {lit : Lit}
-            → Any
+      -- a literal is passed over
+      pub reason_passes : (reached : ℕ) (old new : List Lit)
+          → IsReason side steps extra (take i terms) reached old new
+          → IsReason side steps extra (take (i + 1) terms) reached old new
+      reason_passes reached old new is = record {
+        added = is.added;
+        appended = is.appended;
+        taken =
+            All-weaker _ _ (λ lit some. any_more
             (λ one. (is_taken side steps extra one ≡ true) × (lit ≡ denial side one.lit))
-            (take i terms) → variable lit ≡ variable (denial side term.lit) → ⊥
-        apart (k, one, inside, at, (taken_one, is_denial)) same =
-            let low : k < i = omega (arith, length-take i terms) in
-            let there : get_or terms k one ≡ one = sym (get_or-take i terms k one low) ∙ at in
-            let equal : one.lit ≡ term.lit =
-            taken_same side steps extra unset one term taken_one taken
-            (sym (variable-denial side one.lit) ∙ ap variable (sym is_denial) ∙ same
-            ∙ variable-denial side term.lit) in
-            distinct k i one low within
-            (ap (λ (t : Term). t.lit) there ∙ equal
-            ∙ ap (λ (t : Term). t.lit) (sym here ∙ get_or_default terms i term one within))
+            terms i some) is.added is.taken;
+        enough = λ values none.
+            let some : reached ≤ side_sum side values (take i terms) = is.enough values none in
+            omega (arith, sum_more (side_weight side values));
+        once = is.once;
+      }
+
+      -- a literal is taken
+      pub reason_takes : (reached : ℕ) (old new : List Lit)
+          → AllPairs (λ one two. one.lit ≢ two.lit) terms
+          → IfSome extra (λ one. value_of steps one ≡ Unset)
+          → is_taken side steps extra term ≡ true
+          → IsReason side steps extra (take i terms) reached old new
+          → IsReason side steps extra (take (i + 1) terms) (reached + term.weight) old
+          (new ++ denial side term.lit ∷ [])
+      reason_takes reached old new distinct unset taken is = record {
+        added = is.added ++ denial side term.lit ∷ [];
+        appended =
+            ap (λ lits. lits ++ denial side term.lit ∷ []) is.appended
+            ∙ append_assoc old is.added (denial side term.lit ∷ []);
+        taken =
+            All-push
+            (λ lit. Any
+            (λ one. (is_taken side steps extra one ≡ true) × (lit ≡ denial side one.lit))
+            (take (i + 1) terms)) is.added (denial side term.lit)
+            (All-weaker _ _ (λ lit some. any_more
+            (λ one. (is_taken side steps extra one ≡ true) × (lit ≡ denial side one.lit))
+            terms i some) is.added is.taken)
+            (here_any
+            (λ one. (is_taken side steps extra one ≡ true)
+            × (denial side term.lit ≡ denial side one.lit)) (taken, refl));
+        enough = λ values none.
+            let some : reached ≤ side_sum side values (take i terms) =
+            is.enough values
+            (All-front (λ lit. makes_true values lit ≡ false) is.added (denial side term.lit ∷ [])
+            none) in
+            let more : side_weight side values term ≡ term.weight =
+            denied_weight side values term
+            (All-last (λ lit. makes_true values lit ≡ false) is.added (denial side term.lit) none) in
+            omega (arith, sum_more (side_weight side values), some, more);
+        once =
+            all_pairs_push (λ one two. variable one ≢ variable two) is.added (denial side term.lit)
+            is.once (λ k d inside same. apart (is.taken k d inside) same);
+      }
+        where
+          apart : {lit : Lit}
+              → Any
+              (λ one. (is_taken side steps extra one ≡ true) × (lit ≡ denial side one.lit))
+              (take i terms) → variable lit ≡ variable (denial side term.lit) → ⊥
+          apart (k, one, inside, at, (taken_one, is_denial)) same =
+              let low : k < i = omega (arith, length-take i terms) in
+              let there : get_or terms k one ≡ one = sym (get_or-take i terms k one low) ∙ at in
+              let equal : one.lit ≡ term.lit =
+              taken_same side steps extra unset one term taken_one taken
+              (sym (variable-denial side one.lit) ∙ ap variable (sym is_denial) ∙ same
+              ∙ variable-denial side term.lit) in
+              distinct k i one low within
+              (ap (λ (t : Term). t.lit) there ∙ equal
+              ∙ ap (λ (t : Term). t.lit) (sym here ∙ get_or_default terms i term one within))
 
 -- the sum of what was taken, at one literal more
 taken_more : (side : Side) (steps : List Step) (extra : Option Lit) (terms : List Term) (i : ℕ)

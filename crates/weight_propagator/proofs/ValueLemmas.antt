@@ -7,7 +7,7 @@ use Rattle.clause_store.specs.declared.literal.Lit.{Lit}
 use Rattle.clause_store.specs.declared.literal.Value.{Value}
 use Rattle.clause_store.specs.declared.literal.Value.TheVariants.{Yes, No, Unset}
 use Rattle.clause_store.specs.declared.step.Step.{Step}
-use Rattle.clause_store.specs.Clause.{variable, negation}
+use Rattle.clause_store.specs.Clause.{variable}
 use Rattle.clause_store.specs.Trail.{step_of, value_by, value_of}
 use Rattle.clause_store.proofs.LiteralLemmas.{lit_of_code, variable-negation}
 use Rattle.clause_store.proofs.TrailLemmas.{find_passes}

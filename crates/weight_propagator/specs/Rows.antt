@@ -1,13 +1,17 @@
 -- How a weight body is kept: its variable, its literals by their codes, and its bound, lowered by
 -- what a set gives its negative literals. No public clause cites this module.
 use Rattle.std.specs.Prelude.{◌≡◌, ◌≢◌, ◌≤◌, ◌<◌, ◌+◌, ◌-◌, ◌^◌, ◌⊎◌, ◌==◌, ◌||◌, ℕ, Bool, true}
-use Rattle.std.specs.Prelude.{false, not, ◌&&◌, if◌then◌else◌, List, ◌∷◌, ◌++◌, map, filter, All, Any}
+use Rattle.std.specs.Prelude.{false, not, if◌then◌else◌, List, ◌++◌, map, filter, All, Any}
 use Rattle.std.specs.Prelude.{AllPairs, Option, None, Some, slice_get, sum_by, length}
-use Rattle.ground_program.specs.Meaning.{has, IsSetOver, IsPart}
+use Rattle.std.specs.Prelude.{IfSome, is_some}
+use Rattle.ground_program.specs.declared.program.AtomLit.{AtomLit}
+use Rattle.ground_program.specs.Meaning.{has, IsSetOver}
 use Rattle.clause_store.specs.declared.literal.Lit.{Lit}
 use Rattle.clause_store.specs.declared.literal.Value.{Value}
 use Rattle.clause_store.specs.declared.literal.Value.TheVariants.{Yes, No, Unset}
 use Rattle.clause_store.specs.declared.step.Step.{Step}
+use Rattle.clause_store.specs.declared.theory_says.Says.{Says}
+use Rattle.clause_store.specs.declared.theory_says.Says.TheVariants.{Quiet, Clause as Given}
 use Rattle.clause_store.specs.Clause.{variable, negation, truth, makes_true, HoldsIn, IsOver}
 use Rattle.clause_store.specs.Clause.{HasNoVariableTwice}
 use Rattle.clause_store.specs.Trail.{Assigned, value_of}
@@ -16,6 +20,7 @@ use Rattle.normal_program.specs.declared.normal.BodyOf.{BodyOf}
 use Rattle.normal_program.specs.declared.normal.Normal.{Normal}
 use Rattle.normal_program.specs.Body.{IsWeightBody}
 use Rattle.normal_program.specs.Normal.{body_var}
+use Rattle.normal_program.specs.Limit.{IsNormal}
 use Rattle.normal_program.specs.Clauses.{positive, negative, literal_of}
 use Rattle.weight_propagator.specs.declared.row.Term.{Term}
 use Rattle.weight_propagator.specs.declared.row.Row.{Row}
@@ -161,32 +166,71 @@ pub record IsGivenBy (row : Row) (trail : Assigned) (clause : List Lit) : Type 0
   pub once : HasNoVariableTwice clause
   pub over : All (IsOver trail.vars) clause
 
--- whether a literal of a body is judged by the trail
-abbrev pub is_kept : Option (List Bool) → Part → Bool
-is_kept None part = true
-is_kept (Some set) part = not part.lit.negated
+-- what is answered of a kept body, with the clause that is written
+abbrev pub IsLooked : Row → Assigned → List Lit → Says → Type 0
+IsLooked row trail clause Quiet = ¬ RowGives trail.steps row
+IsLooked row trail clause Given = IsGivenBy row trail clause
 
--- what a literal weighs that the set makes true
+-- what a set makes of a literal of a body: nothing where the trail judges it
+abbrev pub judged : Option (List Bool) → AtomLit → Option Bool
+judged None lit = None
+judged (Some set) lit = if lit.negated then Some (not (has set lit.atom)) else None
+
+-- whether a literal is judged by the trail
+abbrev pub is_kept : Option (List Bool) → Part → Bool
+is_kept inside part = not (is_some (judged inside part.lit))
+
+-- the weight of a literal that a set makes true
+abbrev pub weight_if : Option Bool → ℕ → ℕ
+weight_if None weight = 0
+weight_if (Some true) weight = weight
+weight_if (Some false) weight = 0
+
 abbrev pub given_weight : Option (List Bool) → Part → ℕ
-given_weight None part = 0
-given_weight (Some set) part =
-    if part.lit.negated && not (has set part.lit.atom) then part.weight else 0
+given_weight inside part = weight_if (judged inside part.lit) part.weight
 
 -- a literal as it is kept
 abbrev pub term_of : Part → Term
 term_of part = record { lit = literal_of part.lit; weight = part.weight }
 
--- a body is kept so
+-- the literals that are kept, and the bound
+abbrev pub kept_terms : Option (List Bool) → List Part → List Term
+kept_terms inside parts = map term_of (filter (is_kept inside) parts)
+
+abbrev pub given_sum : Option (List Bool) → List Part → ℕ
+given_sum inside parts = sum_by (given_weight inside) parts
+
+-- a body with this variable is kept so
+pub record IsRowFor (inside : Option (List Bool)) (body : BodyOf) (number : ℕ) (row : Row) : Type 0
+  where
+    pub var : row.var.0 ≡ number
+    pub bound : row.bound ≡ body.bound - given_sum inside body.parts
+    pub terms : row.terms ≡ kept_terms inside body.parts
+    pub full : row.full ≡ all_sum row.terms
+
+-- a kept body is the weight body of this number
 pub record IsRowOf (inside : Option (List Bool)) (normal : Normal) (number : ℕ) (body : BodyOf)
     (row : Row) : Type 0 where
   pub here : slice_get normal.bodies number ≡ Some body
   pub weight : IsWeightBody body
-  pub var : row.var.0 ≡ body_var normal number
-  pub bound : row.bound ≡ body.bound - sum_by (given_weight inside) body.parts
-  pub terms : row.terms ≡ map term_of (filter (is_kept inside) body.parts)
+  pub kept : IsRowFor inside body (body_var normal number) row
 
 -- a kept body is one of the normal form
 pub record IsRowIn (inside : Option (List Bool)) (normal : Normal) (row : Row) : Type 0 where
   pub number : ℕ
   pub body : BodyOf
   pub is : IsRowOf inside normal number body row
+
+-- just the weight bodies before a number are kept
+pub record AreRowsTo (inside : Option (List Bool)) (normal : Normal) (to : ℕ) (rows : List Row) :
+    Type 0 where
+  pub each : All (IsRowIn inside normal) rows
+  pub complete :
+      (number : ℕ) (body : BodyOf) → number < to → slice_get normal.bodies number ≡ Some body
+      → IsWeightBody body → Any (IsRowOf inside normal number body) rows
+
+-- just the weight bodies are kept, of a normal form that a set is over
+pub record AreRows (inside : Option (List Bool)) (normal : Normal) (rows : List Row) : Type 0 where
+  pub normal_form : IsNormal normal
+  pub over : IfSome inside (IsSetOver normal.atoms)
+  pub all : AreRowsTo inside normal (length normal.bodies) rows

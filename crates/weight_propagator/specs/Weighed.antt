@@ -1,6 +1,8 @@
 -- What contracts see of weight bodies that are followed, and what is promised of a clause.
 use Rattle.std.specs.Prelude.{◌≡◌, ◌⊎◌, ℕ, Bool, List, All, Option, None, Some, slice_get}
 use Rattle.clause_store.specs.declared.literal.Lit.{Lit}
+use Rattle.clause_store.specs.declared.theory_says.Says.{Says}
+use Rattle.clause_store.specs.declared.theory_says.Says.TheVariants.{Quiet, Clause as Given}
 use Rattle.clause_store.specs.Clause.{HasNoVariableTwice, IsOver}
 use Rattle.clause_store.specs.Trail.{Assigned}
 use Rattle.clause_store.specs.Standing.{Followed, IsFalseOn, ForcesOn}
@@ -9,7 +11,7 @@ use Rattle.normal_program.specs.declared.normal.Normal.{Normal}
 use Rattle.normal_program.specs.Body.{IsWeightBody}
 use Rattle.normal_program.specs.Normal.{body_var}
 use Rattle.normal_program.specs.Loop.{FollowsFromBody, IsLocalWithin}
-use Rattle.weight_propagator.specs.Gives.{Gives}
+use Rattle.weight_propagator.specs.Gives.{Gives, IsQuiet}
 
 -- the normal form, the set that judges its negative literals, if one does, and the assignments that
 -- are followed
@@ -46,3 +48,9 @@ pub record IsGiven (inside : Option (List Bool)) (normal : Normal) (trail : Assi
   pub standing : IsFalseButOne trail clause
   pub once : HasNoVariableTwice clause
   pub over : All (IsOver trail.vars) clause
+
+-- what is answered, with the clause that is written: nothing exactly where no weight body gives a
+-- clause
+abbrev pub IsSaid : Option (List Bool) → Normal → Assigned → List Lit → Says → Type 0
+IsSaid inside normal trail clause Quiet = IsQuiet inside normal trail.steps
+IsSaid inside normal trail clause Given = IsGiven inside normal trail clause

@@ -2,11 +2,14 @@
 ghost use Rattle.std.specs.Prelude.{◌≡◌, ◌≤◌, ◌<◌, All, Any, IfOk, IfNone, IfSome};
 ghost use Rattle.clause_store.specs.declared.literal.Value.TheVariants.{Unset};
 ghost use Rattle.clause_store.specs.Trail.{value_of};
-ghost use Rattle.weight_propagator.specs.Rows.{IsRow, IsCase, yes_sum, not_no_sum};
+ghost use Rattle.weight_propagator.specs.Rows.{IsRow, IsCase, IsCause, IsGivenBy, IsLooked, yes_sum};
+ghost use Rattle.weight_propagator.specs.Rows.{not_no_sum};
 
+use crate::reason::collect;
 use crate::row::Row;
 use crate::side::Side;
-use clause_store::{Lit, Trail, Value};
+use clause_store::{Clause, Lit, NoMemory, Says, Trail, Value};
+use std::alloc::Global;
 
 /// What the literals of a body weigh on a trail.
 #[derive(Debug, Drop, Clone, Copy)]
@@ -27,13 +30,57 @@ pub enum Case {
 }
 
 impl Row {
+    /// Writes the clause that the body gives, by its sums, where it gives one.
+    pub fn look(
+        &self,
+        alloc: Global,
+        sums: Sums,
+        trail: &Trail,
+        out: &mut Clause,
+    ) -> Result<Says, NoMemory>
+        requires row { IsRow trail.now.vars self.now }
+        requires yes { sums.yes ≡ yes_sum trail.now.steps self.now.terms }
+        requires possible { sums.possible ≡ not_no_sum trail.now.steps self.now.terms }
+        ensures { IfOk result (IsLooked self.now trail.now out.new) }
+    {
+        match self.case(sums, trail) {
+            Case::Nothing => Ok(Says::Quiet),
+            Case::Cause(side, extra) => {
+                self.write(alloc, side, extra, trail, out)?;
+                Ok(Says::Clause)
+            }
+        }
+    }
+
+    // Writes the clause that the body gives for this cause.
+    fn write(
+        &self,
+        alloc: Global,
+        side: Side,
+        extra: Option<Lit>,
+        trail: &Trail,
+        out: &mut Clause,
+    ) -> Result<(), NoMemory>
+        requires row { IsRow trail.now.vars self.now }
+        requires cause { IsCause trail.now.steps self.now side extra }
+        ensures { IfOk result (λ _. IsGivenBy self.now trail.now out.new) }
+    {
+        out.clear();
+        out.push(alloc, self.head(side))?;
+        collect(alloc, self, trail, side, extra, out)?;
+        Ok(())
+    }
+
     /// The sums of a body.
     pub fn sums(&self, trail: &Trail) -> Sums
         requires { IsRow trail.now.vars self.now }
         ensures yes { result.yes ≡ yes_sum trail.now.steps self.now.terms }
         ensures possible { result.possible ≡ not_no_sum trail.now.steps self.now.terms }
     {
-        let mut sums = Sums { yes: 0, possible: 0 };
+        let mut sums = Sums {
+            yes: 0,
+            possible: 0,
+        };
         for term in self.terms.as_slice() {
             match trail.value(term.lit) {
                 Value::Yes => {

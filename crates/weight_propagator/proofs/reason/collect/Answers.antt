@@ -1,4 +1,4 @@
-use Rattle.std.proofs.Common.{◌≡◌, ◌≢◌, ◌+◌, ◌∙◌, ◌++◌, ◌∷◌, [], true, false, List, length, take, take_all, get_or}
+use Rattle.std.proofs.Common.{◌≡◌, ◌≢◌, ◌+◌, ◌∙◌, ◌++◌, ◌∷◌, [], true, false, List, take, take_all, get_or}
 use Rattle.std.proofs.Common.{arith, sym, ap, subst}
 use Rattle.std.specs.Prelude.{AllPairs, ◌||◌}
 use Rattle.clause_store.specs.Trail.{value_of}
