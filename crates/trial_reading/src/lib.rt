@@ -3,18 +3,4 @@
 #![tactic(auto)]
 
 #[cfg(test)]
-mod bytes;
-#[cfg(test)]
-mod numbers;
-#[cfg(test)]
-mod printed_texts;
-#[cfg(test)]
-mod report_lines;
-#[cfg(test)]
-mod runs;
-#[cfg(test)]
-mod second_reader;
-#[cfg(test)]
-mod texts;
-#[cfg(test)]
-mod two_readers;
+mod trials;

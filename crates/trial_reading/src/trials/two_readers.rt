@@ -1,5 +1,5 @@
 // The reader against a second one that was written apart from it.
-use crate::second_reader::{Outcome, second_reading};
+use crate::trials::second_reader::{Outcome, second_reading};
 use byte_edges::SteadySink;
 use lparse_reader::{ReadError, parse, print_program};
 use std::alloc::{AllocError, Global};

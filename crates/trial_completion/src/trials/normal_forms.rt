@@ -1,5 +1,5 @@
 // Small programs by their texts, and their normal forms.
-use crate::scene::{normal_of, program_of};
+use crate::trials::scene::{normal_of, program_of};
 use ground_program::Kind;
 use item_list::{Copied, NoMemory};
 use normal_program::{Normal, NormalRule};

@@ -1,6 +1,6 @@
 // Small programs with their base clauses, written as the codes of the literals with a 0 after
 // each clause.
-use crate::scene::normal_of;
+use crate::trials::scene::normal_of;
 use clause_store::{ClauseRef, NoMemory, Store};
 use completion::complete;
 use std::alloc::Global;

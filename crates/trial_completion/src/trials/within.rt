@@ -4,7 +4,7 @@ ghost use Rattle.std.specs.Prelude.{◌≡◌, ◌<◌, IfOk};
 ghost use Rattle.ground_program.specs.Meaning.{IsSetOver};
 ghost use Rattle.normal_program.specs.Limit.{IsNormal};
 
-use crate::scene::normal_of;
+use crate::trials::scene::normal_of;
 use clause_store::{ClauseRef, Lit, NoMemory, Store};
 use completion::complete_within;
 use ground_program::{Kind, Set};

@@ -1,5 +1,5 @@
 // Lists of spent tests.
-use crate::scene::clause_of;
+use crate::trials::scene::clause_of;
 use clause_store::{Lit, Units};
 use ground_program::Set;
 use item_list::NoMemory;

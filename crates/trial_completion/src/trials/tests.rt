@@ -1,4 +1,4 @@
-use crate::scene::{clause_of, normal_of, program_of, scene_of};
+use crate::trials::scene::{clause_of, has_values, normal_of, program_of, state_of};
 use clause_store::{Clause, ClauseRef, Lit, NoMemory, Store, Units, Value};
 use completion::complete;
 use plain_entailment::is_entailed;
@@ -66,8 +66,8 @@ fn is_shown(alloc: Global, case: &Case) -> Result<bool, NoMemory> {
     let Some(normal) = normal_of(alloc, case.text) else {
         return Ok(false);
     };
-    let mut scene = scene_of(alloc, &normal)?;
-    Ok(scene.settles() && scene.has_values(case.values))
+    let mut state = state_of(alloc, &normal)?;
+    Ok(state.propagate().is_none() && has_values(state.trail(), case.values))
 }
 
 #[test]

@@ -1,5 +1,5 @@
 // A small program whose answer sets are known, and clauses over its variables.
-use crate::scene::{clause_of, program_of};
+use crate::trials::scene::{clause_of, program_of};
 use clause_store::Units;
 use item_list::NoMemory;
 use plain_entailment::is_entailed;

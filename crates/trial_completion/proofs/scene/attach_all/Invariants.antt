@@ -1,6 +1,0 @@
-use Rattle.std.proofs.Common.{take}
-use Rattle.propagator.specs.Watched.{IsReady}
-use Rattle.trial_completion.proofs.scene.attach_all.Given as goal
-
-abbrev pub invariant-loop-at : goal.invariant-loop-at
-invariant-loop-at l = IsReady (take l.at l.store) l.trail l.watches

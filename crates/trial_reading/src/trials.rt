@@ -1,0 +1,9 @@
+// The tests, by what they are about.
+mod bytes;
+mod numbers;
+mod printed_texts;
+mod report_lines;
+mod runs;
+mod second_reader;
+mod texts;
+mod two_readers;
