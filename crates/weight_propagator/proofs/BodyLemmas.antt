@@ -1,4 +1,5 @@
--- What is known of the bodies of a normal form: their literals are in order, and their numbers small.
+-- What is known of the bodies of a normal form: their literals are in order, and their numbers
+-- small.
 use Rattle.std.proofs.Common.{◌≡◌, ◌≤◌, ◌<◌, ◌*◌, ◌^◌, ℕ, true, [], Some, slice_get, length}
 use Rattle.std.proofs.Common.{get_or, sym, ap, subst, ◌∙◌, arith, sum_by}
 use Rattle.std.specs.Prelude.{All, AllPairs}
