@@ -20,6 +20,8 @@ use Rattle.normal_program.specs.Clauses.{is_tautology, cleaned, base_clauses, bo
 use Rattle.normal_program.specs.Clauses.{numbered_bodies, rule_clauses, support_clause}
 use Rattle.normal_program.specs.Clauses.{atoms_of_normal, compute_clauses}
 use Rattle.normal_program.specs.declared.normal.Normal.{Normal}
+use Rattle.normal_program.proofs.lemmas.Base.TruthLemmas.{variable-positive, variable-negative}
+use Rattle.normal_program.proofs.lemmas.Base.TruthLemmas.{variable-literal_of}
 use Rattle.completion.specs.Filling.{Gains, GainsFirst, IsVar}
 
 -- clauses are cleaned one by one
@@ -107,43 +109,12 @@ pub mapped_apart : {X : Type 0} (f : X → List Lit) (xs ys : List X)
     → map f (xs ++ ys) ≡ map f xs ++ map f ys
 mapped_apart f xs ys = map-append f xs ys
 
--- the variables of literals
-pub variable-positive : (var : ℕ) → variable (positive var) ≡ var
-variable-positive var = omega arith
-
-pub variable-negative : (var : ℕ) → variable (negative var) ≡ var
-variable-negative var = omega arith
-
-pub variable-literal_of : (lit : AtomLit) → variable (literal_of lit) ≡ lit.atom
-variable-literal_of lit = by lit.negated
-  where
-    by : (b : Bool) → variable (if b then negative lit.atom else positive lit.atom) ≡ lit.atom
-    by true = variable-negative lit.atom
-    by false = variable-positive lit.atom
-
--- all literals of a clause of a variable and literals have variables
-pub vars-positive : (var : ℕ) (atoms : List ℕ) → 1 ≤ var → All IsVar atoms
-    → All (λ lit. 1 ≤ variable lit) (negative var ∷ map positive atoms)
-vars-positive var atoms first all =
-    All-cons (λ lit. 1 ≤ variable lit) (negative var) (map positive atoms)
-    (omega (arith, first, variable-negative var))
-    (All-map (λ lit. 1 ≤ variable lit) positive atoms
-    (λ k d h. omega (arith, (all k d h).first, variable-positive (get_or atoms k d))))
-
-pub vars-negations : (var : ℕ) (parts : List Part) → 1 ≤ var
-    → All (λ part. IsVar part.lit.atom) parts
-    → All (λ lit. 1 ≤ variable lit) (positive var ∷ map negation (literals_of parts))
-vars-negations var parts first all =
-    All-cons (λ lit. 1 ≤ variable lit) (positive var) (map negation (literals_of parts))
-    (omega (arith, first, variable-positive var))
-    (All-map (λ lit. 1 ≤ variable lit) negation (literals_of parts)
-    (All-map (λ lit. 1 ≤ variable (negation lit)) (λ (part : Part). literal_of part.lit) parts
-    (λ k d h. omega (
-      arith,
-      (all k d h).first,
-      variable-negation (literal_of (get_or parts k d).lit),
-      variable-literal_of (get_or parts k d).lit,
-    ))))
+-- the literals of a body have variables
+pub vars-literals : (parts : List Part) → All (λ part. IsVar part.lit.atom) parts
+    → All (λ lit. 1 ≤ variable lit) (literals_of parts)
+vars-literals parts all =
+    All-map (λ lit. 1 ≤ variable lit) (λ (part : Part). literal_of part.lit) parts
+    (λ k d h. omega (arith, (all k d h).first, variable-literal_of (get_or parts k d).lit))
 
 -- the clauses that one item makes
 pub flat_map-one : {X : Type 0} (f : X → List (List Lit)) (x : X) (clauses : List (List Lit))

@@ -1,11 +1,9 @@
-pub mod TruthLemmas
-pub mod CleanLemmas
-pub mod BodyLemmas
-pub mod RuleLemmas
-pub mod SupportLemmas
-pub mod EntailedLemmas
-pub mod ModelLemmas
 pub mod AddLemmas
+pub mod DraftLemmas
+pub mod AddsLemmas
 pub mod GainLemmas
 pub mod RowLemmas
-pub mod OverLemmas
+pub mod InnerLemmas
+pub mod PartLemmas
+pub mod SmallerLemmas
+pub mod InnerOverLemmas

@@ -1,3 +1,4 @@
-pub mod Completion
 pub mod Filling
+pub mod Drafts
 pub mod Rows
+pub mod Within

@@ -2,11 +2,12 @@
 -- extensions of models.
 use Rattle.std.specs.Prelude.{◌≡◌, ◌≤◌, ◌+◌, ℕ, Bool, false, List, length, take, Some, slice_get}
 use Rattle.ground_program.specs.Meaning.{IsSetOver}
-use Rattle.clause_store.specs.Clause.{truth}
+use Rattle.clause_store.specs.Clause.{truth, Meets}
 use Rattle.normal_program.specs.declared.normal.BodyOf.{BodyOf}
 use Rattle.normal_program.specs.declared.normal.Normal.{Normal}
 use Rattle.normal_program.specs.Body.{IsWeightBody, body_holds}
 use Rattle.normal_program.specs.Normal.{body_var, extension, KeepsAllN, MeetsComputeN}
+use Rattle.normal_program.specs.Clauses.{base_clauses}
 
 -- a truth value for each variable of an atom or a body, and maybe for more variables behind them;
 -- the one at place 0 belongs to no variable and is false
@@ -45,3 +46,9 @@ pub record IsModelOf (normal : Normal) (values : List Bool) : Type 0 where
       front_of normal values ≡ extension normal (set_of normal values) (set_of normal values)
   pub keeps : KeepsAllN normal (set_of normal values) (set_of normal values)
   pub compute : MeetsComputeN normal (set_of normal values)
+
+-- the base clauses and the meaning of the weight bodies make a model
+abbrev pub MakeModels : Normal → Type 0
+MakeModels normal =
+    (values : List Bool) → IsAssignmentOf normal values → Meets values (base_clauses normal) →
+    MeansWeightBodies normal values → IsModelOf normal values

@@ -11,7 +11,8 @@ use clause_store::{Lit, Var};
 use ground_program::AtomLit;
 
 impl Normal {
-    /// How many variables there are: those of atoms, bodies and selectors. They are numbered from 1.
+    /// How many variables there are: those of atoms, bodies and selectors. They are numbered from
+    /// 1.
     pub fn variables(&self) -> u32
         requires { variables self.now ≤ MOST_VARIABLES }
         ensures { result ≡ variables self.now }
