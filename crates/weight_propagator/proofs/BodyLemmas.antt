@@ -18,7 +18,7 @@ use Rattle.normal_program.specs.Body.{rank, full_weight}
 use Rattle.normal_program.specs.Normal.{IsBodyOf, StandsFor}
 use Rattle.normal_program.specs.Limit.{IsNormal}
 use Rattle.normal_program.specs.Loop.{IsAtomOf}
-use Rattle.normal_program.proofs.ListLemmas.{AllZip-length}
+use Rattle.item_list.proofs.ListLemmas.{AllZip-length}
 use Rattle.normal_program.proofs.NormalLemmas.{sum_by-merged}
 use Rattle.normal_program.proofs.RangeLemmas.{IsNormal-in_range}
 use Rattle.normal_program.proofs.UniqueLemmas.{body_at}

@@ -17,7 +17,7 @@ use Rattle.clause_store.specs.Trail.{Assigned, step_of, value_by, value_of}
 use Rattle.clause_store.specs.Standing.{IsFalse}
 use Rattle.clause_store.proofs.LiteralLemmas.{any_or_none, cases_has, variable-negation}
 use Rattle.clause_store.proofs.LiteralLemmas.{is_negated-negation}
-use Rattle.normal_program.proofs.SumLemmas.{sum_by-agree, sum_by-add}
+use Rattle.item_list.proofs.ListLemmas.{sum_by-agree, sum_by-add}
 use Rattle.weight_propagator.specs.declared.row.Term.{Term}
 use Rattle.weight_propagator.specs.declared.row.Row.{Row}
 use Rattle.weight_propagator.specs.declared.side.Side.{Side}

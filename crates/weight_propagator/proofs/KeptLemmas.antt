@@ -17,7 +17,7 @@ use Rattle.clause_store.proofs.LiteralLemmas.{mapped_from}
 use Rattle.normal_program.specs.declared.normal.Part.{Part}
 use Rattle.normal_program.specs.declared.normal.BodyOf.{BodyOf}
 use Rattle.normal_program.specs.Clauses.{positive, literal_of}
-use Rattle.normal_program.proofs.SumLemmas.{sum_by-agree, sum_by-add}
+use Rattle.item_list.proofs.ListLemmas.{sum_by-agree, sum_by-add}
 use Rattle.weight_propagator.specs.declared.row.Term.{Term}
 use Rattle.weight_propagator.specs.declared.row.Row.{Row}
 use Rattle.weight_propagator.specs.Gives.{value_in, if_true, unless_true, unless_false, true_sum}

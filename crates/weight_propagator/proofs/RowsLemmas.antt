@@ -23,7 +23,7 @@ use Rattle.normal_program.specs.Normal.{body_var, greatest_body_var}
 use Rattle.normal_program.specs.Clauses.{positive, negative, literal_of}
 use Rattle.normal_program.specs.Limit.{IsNormal}
 use Rattle.normal_program.specs.Loop.{IsAtomOf}
-use Rattle.normal_program.proofs.ListLemmas.{Any-append_left}
+use Rattle.item_list.proofs.ListLemmas.{Any-append_left}
 use Rattle.weight_propagator.specs.declared.row.Term.{Term}
 use Rattle.weight_propagator.specs.declared.row.Row.{Row}
 use Rattle.weight_propagator.specs.Gives.{IsQuiet}
