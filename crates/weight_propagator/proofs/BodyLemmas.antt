@@ -1,4 +1,5 @@
--- What is known of the bodies of a normal form: their literals are in order, and their numbers small.
+-- What is known of the bodies of a normal form: their literals are in order, and their numbers
+-- small.
 use Rattle.std.proofs.Common.{◌≡◌, ◌≤◌, ◌<◌, ◌*◌, ◌^◌, ℕ, true, [], Some, slice_get, length}
 use Rattle.std.proofs.Common.{get_or, sym, ap, subst, ◌∙◌, arith, sum_by}
 use Rattle.std.specs.Prelude.{All, AllPairs}
@@ -17,7 +18,7 @@ use Rattle.normal_program.specs.Body.{rank, full_weight}
 use Rattle.normal_program.specs.Normal.{IsBodyOf, StandsFor}
 use Rattle.normal_program.specs.Limit.{IsNormal}
 use Rattle.normal_program.specs.Loop.{IsAtomOf}
-use Rattle.normal_program.proofs.ListLemmas.{AllZip-length}
+use Rattle.item_list.proofs.ListLemmas.{AllZip-length}
 use Rattle.normal_program.proofs.NormalLemmas.{sum_by-merged}
 use Rattle.normal_program.proofs.RangeLemmas.{IsNormal-in_range}
 use Rattle.normal_program.proofs.UniqueLemmas.{body_at}

@@ -13,7 +13,7 @@ use Rattle.clause_store.specs.Clause.{variable}
 use Rattle.clause_store.specs.Trail.{step_of, value_by, value_of}
 use Rattle.clause_store.proofs.TrailLemmas.{find_passes}
 use Rattle.normal_program.specs.Clauses.{positive, negative}
-use Rattle.normal_program.proofs.SumLemmas.{sum_by-agree, sum_by-add}
+use Rattle.item_list.proofs.ListLemmas.{sum_by-agree, sum_by-add}
 use Rattle.weight_propagator.specs.declared.row.Term.{Term}
 use Rattle.weight_propagator.specs.declared.row.Row.{Row}
 use Rattle.weight_propagator.specs.declared.side.Side.{Side}

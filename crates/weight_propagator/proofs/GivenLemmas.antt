@@ -1,5 +1,6 @@
 -- The clause that a cause gives.
-use Rattle.std.proofs.Common.{◌≡◌, ◌≢◌, ◌≤◌, ◌<◌, ◌+◌, ◌%◌, ◌⊎◌, ℕ, zero, suc, Bool, true, false, not}
+use Rattle.std.proofs.Common.{◌≡◌, ◌≢◌, ◌≤◌, ◌<◌, ◌+◌, ◌%◌, ◌⊎◌, ℕ, zero, suc, Bool, true, false}
+use Rattle.std.proofs.Common.{not}
 use Rattle.std.proofs.Common.{cond, eqb, List, [], ◌∷◌, length, get_or, Option, Some, None, refl}
 use Rattle.std.proofs.Common.{sym, ap, ◌∙◌, subst, inl, inr, arith}
 use Rattle.std.specs.Prelude.{All, Any, AllPairs}
@@ -16,7 +17,7 @@ use Rattle.clause_store.specs.Trail.{Assigned, step_of, value_by, value_of}
 use Rattle.clause_store.specs.Standing.{IsFalse}
 use Rattle.clause_store.proofs.LiteralLemmas.{any_or_none, cases_has, variable-negation}
 use Rattle.clause_store.proofs.LiteralLemmas.{is_negated-negation}
-use Rattle.normal_program.proofs.SumLemmas.{sum_by-agree, sum_by-add}
+use Rattle.item_list.proofs.ListLemmas.{sum_by-agree, sum_by-add}
 use Rattle.weight_propagator.specs.declared.row.Term.{Term}
 use Rattle.weight_propagator.specs.declared.row.Row.{Row}
 use Rattle.weight_propagator.specs.declared.side.Side.{Side}
@@ -67,7 +68,7 @@ false_but_one trail clause unset is all =
 
 -- ---- values
 
-negation_differs : (lit : Lit) → (negation lit).0 ≢ lit.0
+pub negation_differs : (lit : Lit) → (negation lit).0 ≢ lit.0
 negation_differs lit same =
     let e : (negation lit).0 % 2 ≡ lit.0 % 2 = ap (λ n. n % 2) same in
     flips (eqb (lit.0 % 2) 1) (sym (is_negated-negation lit) ∙ ap (λ n. eqb n 1) e)
@@ -89,7 +90,8 @@ no_negation steps lit is = go (step_of steps (variable lit)) refl is
         (λ e. negation_differs lit (sym e ∙ eqb-true step.lit.0 lit.0 same)))
     by step false other yes_one = absurd (cc)
 
-    go : (o : Option Step) → step_of steps (variable lit) ≡ o → value_by (step_of steps (variable lit)) lit ≡ Yes
+    go : (o : Option Step) → step_of steps (variable lit) ≡ o
+        → value_by (step_of steps (variable lit)) lit ≡ Yes
         → value_of steps (negation lit) ≡ No
     go None none yes_one =
         absurd (let e : Unset ≡ Yes = sym (ap (λ s. value_by s lit) none) ∙ yes_one in cc)
@@ -280,7 +282,8 @@ given_by vars trail row side extra clause is fits cause reason =
                 none))))
           ];
       only = all_of vars trail row side extra is fits reason.added reason.taken;
-      standing = one_open vars trail row side extra is fits reason.added reason.taken cause.standing;
+      standing =
+          one_open vars trail row side extra is fits reason.added reason.taken cause.standing;
       once = no_twice vars trail row side extra is fits reason.added reason.taken reason.once;
       over = all_over vars trail row side extra is fits reason.added reason.taken;
     })

@@ -17,14 +17,15 @@ use Rattle.clause_store.proofs.LiteralLemmas.{mapped_from}
 use Rattle.normal_program.specs.declared.normal.Part.{Part}
 use Rattle.normal_program.specs.declared.normal.BodyOf.{BodyOf}
 use Rattle.normal_program.specs.Clauses.{positive, literal_of}
-use Rattle.normal_program.proofs.SumLemmas.{sum_by-agree, sum_by-add}
+use Rattle.item_list.proofs.ListLemmas.{sum_by-agree, sum_by-add}
 use Rattle.weight_propagator.specs.declared.row.Term.{Term}
 use Rattle.weight_propagator.specs.declared.row.Row.{Row}
 use Rattle.weight_propagator.specs.Gives.{value_in, if_true, unless_true, unless_false, true_sum}
 use Rattle.weight_propagator.specs.Gives.{open_sum, Gives}
 use Rattle.weight_propagator.specs.Gives.GivesBy.{reached, missed, needs, refuses}
 use Rattle.weight_propagator.specs.Rows.{term_value, yes_sum, not_no_sum, RowGives, is_kept}
-use Rattle.weight_propagator.specs.Rows.{weight_if, given_weight, term_of, kept_terms, given_sum, IsRowFor}
+use Rattle.weight_propagator.specs.Rows.{weight_if, given_weight, term_of, kept_terms, given_sum}
+use Rattle.weight_propagator.specs.Rows.{IsRowFor}
 
 -- the sum over the kept elements
 pub sum_by-kept : {X Y : Type 0} (p : X → Bool) (g : X → Y) (f : Y → ℕ) (xs : List X)
@@ -91,7 +92,8 @@ part_cell f (Some set) steps part none all =
 
 -- what the true literals weigh, and those that aren't false
 pub kept_true_sum : (inside : Option (List Bool)) (steps : List Step) (parts : List Part)
-    → true_sum (λ (part : Part). value_in inside steps part.lit) (λ (part : Part). part.weight) parts
+    → true_sum (λ (part : Part). value_in inside steps part.lit) (λ (part : Part). part.weight)
+    parts
     ≡ yes_sum steps (kept_terms inside parts) + given_sum inside parts
 kept_true_sum inside steps parts =
     kept_sum inside (λ term. if_true (value_of steps term.lit) term.weight)
@@ -99,7 +101,8 @@ kept_true_sum inside steps parts =
     (λ k d within. part_cell if_true inside steps (get_or parts k d) refl refl)
 
 pub kept_open_sum : (inside : Option (List Bool)) (steps : List Step) (parts : List Part)
-    → open_sum (λ (part : Part). value_in inside steps part.lit) (λ (part : Part). part.weight) parts
+    → open_sum (λ (part : Part). value_in inside steps part.lit) (λ (part : Part). part.weight)
+    parts
     ≡ not_no_sum steps (kept_terms inside parts) + given_sum inside parts
 kept_open_sum inside steps parts =
     kept_sum inside (λ term. unless_false (value_of steps term.lit) term.weight)
@@ -192,7 +195,8 @@ module _ (inside : Option (List Bool)) (steps : List Step) (body : BodyOf) (var 
   -- what a body gives, the kept one gives
   pub row_gives : Gives inside steps var body → RowGives steps row
   row_gives (reached enough not_yes) =
-      reached (omega (arith, enough, trues, is.bound)) (λ yes_one. not_yes (sym var_value ∙ yes_one))
+      reached (omega (arith, enough, trues, is.bound))
+      (λ yes_one. not_yes (sym var_value ∙ yes_one))
   row_gives (missed short not_no) =
       missed (omega (arith, short, opens, is.bound)) (λ no_one. not_no (sym var_value ∙ no_one))
   row_gives (needs is_yes (k, part, within, at, (not_yes, short))) =
@@ -202,7 +206,8 @@ module _ (inside : Option (List Bool)) (steps : List Step) (body : BodyOf) (var 
             (to_term
             (λ term. (term_value steps term ≢ Yes)
             × (not_no_sum steps row.terms
-            < row.bound + unless_false (term_value steps term) term.weight)) k part within at keeps (
+            < row.bound + unless_false (term_value steps term) term.weight)) k part within
+            at keeps (
               λ yes_one. not_yes (kept_value inside steps part keeps ∙ yes_one),
               omega (
                 arith,
@@ -262,7 +267,8 @@ module _ (inside : Option (List Bool)) (steps : List Step) (body : BodyOf) (var 
       → Any P row.terms → Any Q body.parts
   from_term P Q from (k, term, within, at, holds) =
       let (part, here, keeps, same) =
-      kept_from inside body.parts term (subst (λ terms. Contains terms term) is.terms (k, within, at))
+      kept_from inside body.parts term
+      (subst (λ terms. Contains terms term) is.terms (k, within, at))
       in
       any_from Q body.parts part here (from part keeps (subst P (sym same) holds))
 
@@ -270,7 +276,8 @@ module _ (inside : Option (List Bool)) (steps : List Step) (body : BodyOf) (var 
       → unless_false (term_value steps term) term.weight ≤ not_no_sum steps row.terms
   open_within k term within at =
       subst
-      (λ (one : Term). unless_false (term_value steps one) one.weight ≤ not_no_sum steps row.terms) at
+      (λ (one : Term). unless_false (term_value steps one) one.weight ≤ not_no_sum steps row.terms)
+      at
       (get_or-le-sum_by (λ (one : Term). unless_false (term_value steps one) one.weight) row.terms k
       term within)
 

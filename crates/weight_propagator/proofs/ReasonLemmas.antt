@@ -149,7 +149,8 @@ module _ (side : Side) (steps : List Step) (extra : Option Lit) (terms : List Te
             none) in
             let more : side_weight side values term ≡ term.weight =
             denied_weight side values term
-            (All-last (λ lit. makes_true values lit ≡ false) is.added (denial side term.lit) none) in
+            (All-last (λ lit. makes_true values lit ≡ false) is.added (denial side term.lit)
+            none) in
             omega (arith, sum_more (side_weight side values), some, more);
         once =
             all_pairs_push (λ one two. variable one ≢ variable two) is.added (denial side term.lit)

@@ -23,7 +23,7 @@ use Rattle.normal_program.specs.Normal.{body_var, greatest_body_var}
 use Rattle.normal_program.specs.Clauses.{positive, negative, literal_of}
 use Rattle.normal_program.specs.Limit.{IsNormal}
 use Rattle.normal_program.specs.Loop.{IsAtomOf}
-use Rattle.normal_program.proofs.ListLemmas.{Any-append_left}
+use Rattle.item_list.proofs.ListLemmas.{Any-append_left}
 use Rattle.weight_propagator.specs.declared.row.Term.{Term}
 use Rattle.weight_propagator.specs.declared.row.Row.{Row}
 use Rattle.weight_propagator.specs.Gives.{IsQuiet}
@@ -187,14 +187,16 @@ module _ (inside : Option (List Bool)) (parts : List Part) (i : ℕ) (d : Part)
       ≡ kept_terms inside (take i parts) ++ term_of (get_or parts i d) ∷ []
   terms_with keeps =
       front_more
-      ∙ ap (λ b. kept_terms inside (take i parts) ++ map term_of (cond b (get_or parts i d ∷ []) []))
+      ∙ ap
+      (λ b. kept_terms inside (take i parts) ++ map term_of (cond b (get_or parts i d ∷ []) []))
       keeps
 
   pub terms_without : is_kept inside (get_or parts i d) ≡ false
       → kept_terms inside (take (i + 1) parts) ≡ kept_terms inside (take i parts)
   terms_without drops =
       front_more
-      ∙ ap (λ b. kept_terms inside (take i parts) ++ map term_of (cond b (get_or parts i d ∷ []) []))
+      ∙ ap
+      (λ b. kept_terms inside (take i parts) ++ map term_of (cond b (get_or parts i d ∷ []) []))
       drops
       ∙ append-nil (kept_terms inside (take i parts))
 

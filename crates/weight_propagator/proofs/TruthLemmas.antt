@@ -40,7 +40,8 @@ module _ (values : List Bool) where
   makes_true-negative var =
       let odd : eqb ((2 * var + 1) % 2) 1 ≡ true = eq-eqb ((2 * var + 1) % 2) 1 (no_odd var) in
       ap (λ b. if b then not (truth values ((2 * var + 1) / 2))
-      else truth values ((2 * var + 1) / 2)) odd ∙ ap (λ v. not (truth values v)) (variable-negative var)
+      else truth values ((2 * var + 1) / 2)) odd
+      ∙ ap (λ v. not (truth values v)) (variable-negative var)
 
   flipped : (b t : Bool) → (if not b then not t else t) ≡ not (if b then not t else t)
   flipped true true = refl

@@ -47,8 +47,10 @@ abbrev pub open_sum : {X : Type 0} → (X → Value) → (X → ℕ) → List X 
 open_sum value weight items = sum_by (λ x. unless_false (value x) (weight x)) items
 
 -- the four cases in which literals with values and weights, a bound, and the value of the variable
--- give a clause: the true ones reach the bound, and the variable isn't true; those that aren't false
--- stay below it, and the variable isn't false; the variable is true, and without one that isn't true
+-- give a clause: the true ones reach the bound, and the variable isn't true; those that aren't
+-- false
+-- stay below it, and the variable isn't false; the variable is true, and without one that isn't
+-- true
 -- they stay below it; the variable is false, and with one that isn't false the true ones reach it
 pub data GivesBy {X : Type 0} (value : X → Value) (weight : X → ℕ) (items : List X) (bound : ℕ)
     (var : Value) : Type 0 where

@@ -61,7 +61,8 @@ pub record IsSized (row : Row) : Type 0 where
   pub few : all_sum row.terms < 2 ^ 62
   pub full : row.full ≡ all_sum row.terms
 
--- what is true of each kept body: no literal twice, none of them of its variable, and all of them in
+-- what is true of each kept body: no literal twice, none of them of its variable, and all of them
+-- in
 -- range
 pub record IsRow (vars : ℕ) (row : Row) : Type 0 where
   pub distinct : AllPairs (λ one two. one.lit ≢ two.lit) row.terms

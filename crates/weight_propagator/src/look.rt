@@ -2,7 +2,8 @@
 ghost use Rattle.std.specs.Prelude.{◌≡◌, ◌≤◌, ◌<◌, All, Any, IfOk, IfNone, IfSome};
 ghost use Rattle.clause_store.specs.declared.literal.Value.TheVariants.{Unset};
 ghost use Rattle.clause_store.specs.Trail.{value_of};
-ghost use Rattle.weight_propagator.specs.Rows.{IsRow, IsCase, IsCause, IsGivenBy, IsLooked, yes_sum};
+ghost use Rattle.weight_propagator.specs.Rows.{IsRow, IsCase, IsCause, IsGivenBy, IsLooked};
+ghost use Rattle.weight_propagator.specs.Rows.{yes_sum};
 ghost use Rattle.weight_propagator.specs.Rows.{not_no_sum};
 
 use crate::reason::collect;

@@ -1,4 +1,5 @@
-use Rattle.std.proofs.Common.{◌≡◌, ◌≢◌, ◌+◌, ◌∙◌, ◌++◌, ◌∷◌, [], true, false, List, take, take_all, get_or}
+use Rattle.std.proofs.Common.{◌≡◌, ◌≢◌, ◌+◌, ◌∙◌, ◌++◌, ◌∷◌, [], true, false, List, take, take_all}
+use Rattle.std.proofs.Common.{get_or}
 use Rattle.std.proofs.Common.{arith, sym, ap, subst}
 use Rattle.std.specs.Prelude.{AllPairs, ◌||◌}
 use Rattle.clause_store.specs.Trail.{value_of}
