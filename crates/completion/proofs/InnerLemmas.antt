@@ -27,7 +27,7 @@ use Rattle.normal_program.specs.Normal.{body_var, RuleBodyHolds, KeepsN}
 use Rattle.normal_program.specs.Clauses.{positive, negative, literal_of, literals_of, is_choice}
 use Rattle.normal_program.specs.Spent.{is_blocked, positive_parts}
 use Rattle.normal_program.specs.Loop.{IsAtomOf}
-use Rattle.normal_program.proofs.ListLemmas.{IsSomeAnd-found}
+use Rattle.item_list.proofs.ListLemmas.{IsSomeAnd-found}
 use Rattle.normal_program.proofs.RangeLemmas.{All-unmap}
 use Rattle.normal_program.proofs.lemmas.Base.TruthLemmas.{makes_true-positive, makes_true-negative}
 use Rattle.normal_program.proofs.lemmas.Base.TruthLemmas.{makes_true-literal_of, HoldsIn-here}
