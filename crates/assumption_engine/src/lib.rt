@@ -1,8 +1,14 @@
 //! The search over a theory: a search by conflicts that makes assumed literals true first.
 #![tactic(auto)]
 
+mod answer;
 mod check;
+mod engine;
+mod next_decision;
+mod state;
 mod theory;
 
+pub use answer::{Answer, Turn};
 pub use check::Check;
+pub use engine::Engine;
 pub use theory::Theory;
