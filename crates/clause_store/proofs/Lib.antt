@@ -7,3 +7,6 @@ pub mod PlaceLemmas
 pub mod ArrayLemmas
 pub mod ReasonLemmas
 pub mod BackLemmas
+pub mod UnitLemmas
+pub mod RowLemmas
+pub mod HistoryLemmas

@@ -6,3 +6,6 @@ pub mod Counted
 pub mod Layout
 pub mod Arrays
 pub mod Laws
+pub mod UnitLaws
+pub mod History
+pub mod HistoryLaws

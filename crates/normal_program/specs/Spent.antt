@@ -2,13 +2,13 @@
 -- said to follow from.
 use Rattle.std.specs.Prelude.{◌≡◌, ◌⊎◌, ◌&&◌, not, ℕ, Bool, if◌then◌else◌, List, [], ◌∷◌, ◌++◌}
 use Rattle.std.specs.Prelude.{length, map, filter, flat_map, All, Any, IfSome, IfNone, MatchOption}
-use Rattle.std.specs.Prelude.{⊤}
 use Rattle.std.specs.List.{list_any}
 use Rattle.ground_program.specs.declared.program.Kind.TheVariants.{Disjunctive}
 use Rattle.ground_program.specs.Meaning.{has, IsSetOver}
 use Rattle.clause_store.specs.declared.literal.Lit.{Lit}
 use Rattle.clause_store.specs.Clause.{IsOver, IsTrueIn}
-use Rattle.clause_store.specs.Entailment.{AreUnits, Refutes, negations}
+use Rattle.clause_store.specs.Entailment.{AreUnits}
+use Rattle.clause_store.specs.History.{AreRefutedWith}
 use Rattle.normal_program.specs.declared.normal.Part.{Part}
 use Rattle.normal_program.specs.declared.normal.BodyOf.{BodyOf}
 use Rattle.normal_program.specs.declared.normal.NormalRule.{NormalRule}
@@ -63,17 +63,6 @@ inner_clauses normal set =
     ++ flat_map (inner_body_clauses normal set) (numbered_bodies normal)
     ++ flat_map (rule_clauses normal) normal.rules
     ++ flat_map (inner_choice_clauses normal set) normal.rules)
-
--- some clauses of a kind, with the given ones, refute the negations of a clause
-abbrev pub RefutedWith : (List Lit → Type 0) → List (List Lit) → List Lit → Type 0
-RefutedWith IsKind clauses unit =
-    (more : List (List Lit)) × All IsKind more × Refutes (clauses ++ more) (negations unit)
-
--- each unit is refuted so, with the units before it
-abbrev pub AreRefutedWith : (List Lit → Type 0) → List (List Lit) → List (List Lit) → Type 0
-AreRefutedWith IsKind clauses [] = ⊤
-AreRefutedWith IsKind clauses (unit ∷ rest) =
-    RefutedWith IsKind clauses unit × AreRefutedWith IsKind (clauses ++ unit ∷ []) rest
 
 -- the program has a disjunctive rule
 abbrev pub IsDisjunctive : Normal → Type 0

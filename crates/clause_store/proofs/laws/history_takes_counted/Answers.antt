@@ -1,0 +1,5 @@
+use Rattle.clause_store.proofs.HistoryLemmas as lemma
+use Rattle.clause_store.proofs.laws.history_takes_counted.Goals as goal
+
+pub returns : goal.returns
+returns c = lemma.history_takes_counted

@@ -1,0 +1,5 @@
+use Rattle.clause_store.proofs.UnitLemmas as lemma
+use Rattle.clause_store.proofs.laws.unit_among_fewer.Goals as goal
+
+pub returns : goal.returns
+returns c = lemma.unit_among_fewer
