@@ -1,5 +1,5 @@
 -- What stays where a theory means the same.
-use Rattle.std.proofs.Common.{◌≡◌, Bool, ◌≤◌, List, ◌++◌, length, take, refl, sym, ap, ◌∙◌}
+use Rattle.std.proofs.Common.{◌≡◌, Bool, ◌≤◌, List, [], ◌++◌, length, take, refl, sym, ap, ◌∙◌}
 use Rattle.std.proofs.Common.{subst, arith, length-take}
 use Rattle.std.specs.Prelude.{map}
 use Rattle.std.proofs.lemmas.List.{length-map, take-append-le}
@@ -82,14 +82,15 @@ right_moved one two before after old new defined same is ready store vars follow
 pub followed_more : (steps added : List Step) (followed : List Followed)
     → AreFollowed steps followed → AreFollowed (steps ++ added) followed
 followed_more steps added followed is =
-    let within : length followed ≤ length steps =
-    omega (
-      arith,
-      ap length is,
-      length-map as_followed (take (length followed) steps),
-      length-take (length followed) steps,
-    ) in
+    let same = simp (length-map, length-take) at (ap length is) in
+    let within : length followed ≤ length steps = omega (arith, same) in
     is ∙ ap (map as_followed) (sym (take-append-le (length followed) steps added within))
+
+-- nothing is followed at an empty trail
+pub none_followed : (steps : List Step) (followed : List Followed) → followed ≡ []
+    → AreFollowed steps followed
+none_followed steps followed none =
+    subst (AreFollowed steps) (sym none) refl
 
 pub right_extended : (meaning : Meaning) (followed : List Followed) (old new : State)
     (defined : List (List Lit)) → IsRight meaning followed old defined

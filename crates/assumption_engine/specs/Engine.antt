@@ -2,6 +2,7 @@
 use Rattle.std.specs.Prelude.{◌≡◌, ◌≢◌, ◌≤◌, ◌<◌, ◌⊎◌, ◌++◌, ℕ, Bool, List, length, take, slice_get}
 use Rattle.std.specs.Prelude.{All, Contains, None, Some}
 use Rattle.clause_store.specs.declared.literal.Lit.{Lit}
+use Rattle.clause_store.specs.declared.literal.ClauseRef.{ClauseRef}
 use Rattle.clause_store.specs.declared.literal.Value.TheVariants.{Yes, Unset}
 use Rattle.clause_store.specs.declared.step.Step.{Step}
 use Rattle.clause_store.specs.Clause.{HasNoVariableTwice, IsOver, Meets}
@@ -10,10 +11,11 @@ use Rattle.clause_store.specs.Entailment.{AreUnits, Refutes, negations}
 use Rattle.clause_store.specs.Laws.{AreMoreClauses}
 use Rattle.clause_store.specs.Standing.{AreFollowed, Followed, IsFalse}
 use Rattle.clause_store.specs.Trail.{Assigned, IsTrail, present_level, up_to, value_of}
+use Rattle.conflict_learning.specs.Analysis.{greatest_level}
 use Rattle.conflict_learning.specs.declared.learned.Learned.{Learned}
 use Rattle.propagator.specs.Watched.{IsReady}
 use Rattle.assumption_engine.specs.Theory.{Meaning}
-use Rattle.assumption_engine.specs.History.{Added, added_clauses, counted_clauses, IsHistoryOf}
+use Rattle.clause_store.specs.History.{Added, added_clauses, counted_clauses, IsHistoryOf}
 use Rattle.assumption_engine.specs.declared.state.State.{State}
 
 -- a model of an engine: one of the theory that meets the clause of each defined selector
@@ -100,3 +102,9 @@ pub record Taught (old new : State) (learned : Learned) : Type 0 where
 pub record IsAsBelow (old new : List Step) : Type 0 where
   pub level : present_level new ≤ present_level old
   pub same : (level : ℕ) → level < present_level new → up_to level new ≡ up_to level old
+
+-- the greatest level of the literals of a clause
+abbrev pub IsLevelOf : State → ClauseRef → ℕ → Type 0
+IsLevelOf state at level =
+    (lits : List Lit) → slice_get state.store at.0 ≡ Some lits
+    → level ≡ greatest_level state.trail.steps lits

@@ -2,8 +2,12 @@
 #![tactic(auto)]
 
 mod answer;
+mod asking;
 mod check;
+mod deciding;
 mod engine;
+mod giving;
+mod learning;
 mod next_decision;
 mod state;
 mod theory;

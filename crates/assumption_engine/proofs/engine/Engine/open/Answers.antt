@@ -1,8 +1,9 @@
-use Rattle.std.proofs.Common.{[], sym, ap, subst, ◌∙◌, arith}
+use Rattle.std.proofs.Common.{[], sym, ap, subst, arith}
 use Rattle.std.proofs.lemmas.List.Elements.{All-nil}
 use Rattle.std.specs.Prelude.{Contains}
 use Rattle.clause_store.specs.Clause.{Meets}
 use Rattle.clause_store.specs.Laws.{AreMoreClauses}
+use Rattle.assumption_engine.proofs.SameLemmas.{none_followed}
 use Rattle.assumption_engine.proofs.engine.Engine.open.Goals as goal
 
 pub returns-clause-right : goal.returns-clause-right
@@ -21,5 +22,7 @@ returns-clause-right g c =
       range =
           let vars = ap (λ t. t.vars) c.in_ok-state.ensures.trail in
           omega (arith, vars, c.requires.range);
-      follows = ?;
+      follows =
+          none_followed c.in_ok-state.state.trail.steps (g.T.Theory.followed c.args.theory)
+          c.requires.follows;
     }
