@@ -1,5 +1,6 @@
 #!/usr/bin/env python3
-"""Inputs for timing: `make_input.py facts N` (N facts and as many names) or `make_input.py mixed BYTES`."""
+"""Inputs for timing: `make_input.py facts N` (N facts and as many names), `make_input.py basic N` (N basic rules over
+200,000 atoms) or `make_input.py mixed BYTES` (rules of all kinds)."""
 import random
 import sys
 
@@ -11,6 +12,14 @@ def facts(count, out):
     for atom in range(1, count + 1):
         out.write(f"{atom} atom({atom})\n")
     out.write("0\nB+\n0\nB-\n0\n1\n")
+
+
+def basic(count, out):
+    draw = random.Random(1)
+    for _ in range(count):
+        head, one, two = (draw.randint(2, 200000) for _ in range(3))
+        out.write(f"1 {head} 2 1 {one} {two}\n")
+    out.write("0\n0\nB+\n0\nB-\n1\n0\n1\n")
 
 
 def rule(draw):
@@ -38,4 +47,4 @@ def mixed(size, out):
 
 
 if __name__ == "__main__":
-    {"facts": facts, "mixed": mixed}[sys.argv[1]](int(sys.argv[2]), sys.stdout)
+    {"facts": facts, "basic": basic, "mixed": mixed}[sys.argv[1]](int(sys.argv[2]), sys.stdout)

@@ -10,6 +10,7 @@ use Rattle.std.specs.List.{flat_map}
 use Rattle.std.proofs.lemmas.Grind.{flat_map-append}
 use Rattle.byte_edges.specs.Faults.{Rose}
 use Rattle.byte_edges.specs.Edges.{Appended, AppendedPrefix, Writes}
+use Rattle.byte_edges.specs.Memory.{PageState}
 
 -- a rise shows at each later count
 pub rose_later : (before now later : ℕ) → Rose before now → now ≤ later → Rose before later
@@ -142,3 +143,20 @@ module _ {K : Type 0} {written : K → Option (List ℕ)} {faults : K → ℕ} w
       → Writes {T = T} written faults old new (flat_map text xs) (Err error)
   writes_stopped text xs i one =
       writes_same (flat_map-take-drop text xs i) (writes_longer (flat_map text (drop i xs)) one)
+
+-- what was written to an empty page is on it
+pub page_holds : {T E : Type 0} {faults : PageState → ℕ} {old new : PageState} {text : List ℕ}
+    {value : T} → old ≡ record { written = []; faults = 0 }
+    → Writes {E = E} (λ page. Some page.written) faults old new text (Ok value)
+    → new.written ≡ text
+page_holds {text = text} empty one =
+    one.all.told ∙ ap (λ (page : PageState). page.written ++ text) empty
+
+-- so what the page holds goes out by one write
+pub writes_page : {K T E U F : Type 0} {written : K → Option (List ℕ)} {faults : K → ℕ}
+    {page_faults : PageState → ℕ} {before after : PageState} {old new : K} {text page : List ℕ}
+    {value : T} {result : Result U F} → before ≡ record { written = []; faults = 0 }
+    → Writes {E = E} (λ page. Some page.written) page_faults before after text (Ok value)
+    → page ≡ after.written → Writes written faults old new page result
+    → Writes written faults old new text result
+writes_page empty one same written = writes_same (same ∙ page_holds empty one) written

@@ -75,3 +75,8 @@ after_steady_write sink bytes =
     if fits sink (length bytes)
     then record sink { kept = sink.kept ++ bytes }
     else record sink { overflowed = true }
+
+-- a page: the bytes written, and how many writes failed
+pub record PageState : Type 0 where
+  pub written : List ℕ
+  pub faults : ℕ

@@ -1,5 +1,5 @@
 // The two edges of a program: where its bytes come from, and where they go.
-ghost use Rattle.std.specs.Prelude.{◌≡◌, ◌≤◌, ◌<◌, ◌^◌, ℕ, List, [], Option, Some, Ok, length};
+ghost use Rattle.std.specs.Prelude.{◌≡◌, ◌≤◌, ◌<◌, ℕ, List, [], Option, Some, Ok, length};
 ghost use Rattle.std.specs.Prelude.{take, IfSome, IfOk, OnErr, OnOk};
 ghost use Rattle.byte_edges.specs.Faults.{Rose};
 ghost use Rattle.byte_edges.specs.Edges.{Moved, Appended};
@@ -31,8 +31,7 @@ pub trait Source {
         ensures unread { OnErr result
             (IfSome (left self.old) (λ bytes. left self.new ≡ Some bytes)) }
 
-        ensures count { faults self.old ≤ faults self.new }
-        ensures limit { faults self.new < 2 ^ 64 };
+        ensures count { faults self.old ≤ faults self.new };
 }
 
 /// Where bytes go.
@@ -56,6 +55,5 @@ pub trait Sink {
         ensures cause { OnErr result (Rose (faults self.old) (faults self.new)) }
         ensures unwritten { OnErr result (written self.new ≡ written self.old) }
 
-        ensures count { faults self.old ≤ faults self.new }
-        ensures limit { faults self.new < 2 ^ 64 };
+        ensures count { faults self.old ≤ faults self.new };
 }

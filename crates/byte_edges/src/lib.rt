@@ -5,6 +5,7 @@
 mod edges;
 mod memory_sink;
 mod memory_source;
+mod page;
 mod pieces;
 mod reading;
 mod schedule;
@@ -17,6 +18,7 @@ mod writing;
 pub use edges::{Failed, Sink, Source};
 pub use memory_sink::MemorySink;
 pub use memory_source::MemorySource;
+pub use page::Page;
 pub use reading::{InputError, read_all};
 pub use std::alloc::AllocError as NoMemory;
 pub use std_edges::{StdSink, StdSource};

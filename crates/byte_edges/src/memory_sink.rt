@@ -1,6 +1,6 @@
 // A sink in memory that takes few bytes a call, has little room and fails at the calls that it is
 // told.
-ghost use Rattle.std.specs.Prelude.{◌≡◌, ◌≤◌, ◌<◌, ◌^◌, ◌↔◌, [], Some, length, take, IfOk, OnErr};
+ghost use Rattle.std.specs.Prelude.{◌≡◌, ◌≤◌, ◌<◌, ◌↔◌, [], Some, length, take, IfOk, OnErr};
 ghost use Rattle.std.specs.Prelude.{IsErr};
 ghost use Rattle.byte_edges.specs.Faults.{Rose};
 ghost use Rattle.byte_edges.specs.Edges.{Appended};
@@ -99,7 +99,6 @@ impl Sink for MemorySink {
         ensures cause { OnErr result (Rose self.old.faults self.new.faults) }
         ensures unwritten { OnErr result (self.new.written ≡ self.old.written) }
         ensures count { self.old.faults ≤ self.new.faults }
-        ensures limit { self.new.faults < 2 ^ 64 }
 
         // Which calls fail, how much the others take, and what is different after them.
         ensures fails { IsErr result ↔ RefusesWrite self.old }

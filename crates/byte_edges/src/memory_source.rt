@@ -1,5 +1,5 @@
 // A source in memory that gives few bytes a call and fails at the calls that it is told.
-ghost use Rattle.std.specs.Prelude.{◌≡◌, ◌≤◌, ◌<◌, ◌^◌, ◌↔◌, [], Some, length, IfOk, OnErr, IsErr};
+ghost use Rattle.std.specs.Prelude.{◌≡◌, ◌≤◌, ◌<◌, ◌↔◌, [], Some, length, IfOk, OnErr, IsErr};
 ghost use Rattle.byte_edges.specs.Faults.{Rose};
 ghost use Rattle.byte_edges.specs.Edges.{Moved};
 ghost use Rattle.byte_edges.specs.Memory.{SourceState, IsListed, read_count, after_read};
@@ -79,7 +79,6 @@ impl Source for MemorySource {
         ensures cause { OnErr result (Rose self.old.faults self.new.faults) }
         ensures unread { OnErr result (self.new.left ≡ self.old.left) }
         ensures count { self.old.faults ≤ self.new.faults }
-        ensures limit { self.new.faults < 2 ^ 64 }
 
         // Which calls fail, how much the others move, and what is different after them.
         ensures fails { IsErr result ↔ IsListed self.old.fails self.old.calls }

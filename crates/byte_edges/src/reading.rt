@@ -48,8 +48,11 @@ pub fn read_all<S: Source>(alloc: Global, source: &mut S, limit: u64) -> Result<
     ensures within { IfOk result (λ bytes. length bytes.items ≤ limit) }
     ensures end { OnOk result (IfSome (S.left source.old) (λ _. S.left source.new ≡ Some [])) }
 
+    // A fault comes before more than the limit was taken.
     ensures read_fault { IsErrOf result InputError.ReadFault
         → Rose (S.faults source.old) (S.faults source.new) }
+    ensures fault_within { IsErrOf result InputError.ReadFault
+        → IfSome (S.left source.old) (TookUpTo limit (S.left source.new)) }
 
     // The limit was taken and one byte more.
     ensures too_long { IsErrOf result InputError.TooLong → IfSome (S.left source.old)
@@ -97,6 +100,9 @@ fn read_some<S: Source>(
         → Rose (S.faults source.old) (S.faults source.new) }
     ensures not_long { IsErrOf result InputError.TooLong → ⊥ }
 
+    // A read that failed took nothing.
+    ensures unread { IsErrOf result InputError.ReadFault
+        → IfSome (S.left source.old) (λ left. S.left source.new ≡ Some left) }
     ensures taken { IfSome (S.left source.old)
         (TookUpTo (limit + 1 - length bytes.old.items) (S.left source.new)) }
     ensures count { S.faults source.old ≤ S.faults source.new }

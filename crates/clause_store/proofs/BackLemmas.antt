@@ -64,7 +64,7 @@ next_above level None = omega arith
 next_above level (Some why) = omega arith
 
 -- no assignment is of a lower level than those before it
-rises_above : (level : ℕ) (steps : List Step) → RisesFrom level steps
+pub rises_above : (level : ℕ) (steps : List Step) → RisesFrom level steps
     → All (λ step. level ≤ step.level) steps
 rises_above level [] rises = All-nil (λ step. level ≤ step.level)
 rises_above level (step ∷ rest) rises =

@@ -7,6 +7,5 @@ pub mod PlaceLemmas
 pub mod ArrayLemmas
 pub mod ReasonLemmas
 pub mod BackLemmas
-pub mod UnitLemmas
-pub mod RowLemmas
-pub mod HistoryLemmas
+pub mod FrontLemmas
+pub mod lemmas

@@ -118,11 +118,11 @@ abbrev pub end_level : ℕ → List Step → ℕ
 end_level level [] = level
 end_level level (step ∷ rest) = end_level step.level rest
 
-next_level-ge : (level : ℕ) (reason : Option ClauseRef) → level ≤ next_level level reason
+pub next_level-ge : (level : ℕ) (reason : Option ClauseRef) → level ≤ next_level level reason
 next_level-ge level None = omega arith
 next_level-ge level (Some why) = omega arith
 
-next_level-le : (level : ℕ) (reason : Option ClauseRef) → next_level level reason ≤ level + 1
+pub next_level-le : (level : ℕ) (reason : Option ClauseRef) → next_level level reason ≤ level + 1
 next_level-le level None = omega arith
 next_level-le level (Some why) = omega arith
 

@@ -2,7 +2,7 @@
 use Rattle.std.proofs.Common.{◌≡◌, ◌≢◌, ℕ, zero, suc, ◌+◌, ◌*◌, ◌/◌, ◌%◌, Bool, true, false, not}
 use Rattle.std.proofs.Common.{cond, eqb, List, [], ◌∷◌, ◌++◌, Option, Some, None, refl, sym, ap}
 use Rattle.std.proofs.Common.{◌∙◌, subst, inl, inr, arith}
-use Rattle.std.specs.Prelude.{find, slice_get, IsSome}
+use Rattle.std.specs.Prelude.{find, slice_get, IsSome, Result, Ok, Err, OnOk, OnErr}
 use Rattle.std.proofs.lemmas.Bool.{cases_Bool, eqb-true, eqb-false, eq-eqb, ne_eqb, cases_eq}
 use Rattle.std.proofs.lemmas.Bool.{false≢true}
 use Rattle.std.proofs.lemmas.Option.{same_Some}
@@ -12,7 +12,9 @@ use Rattle.clause_store.specs.declared.literal.Value.{Value}
 use Rattle.clause_store.specs.declared.literal.Value.TheVariants.{Yes, No, Unset}
 use Rattle.clause_store.specs.declared.step.Step.{Step}
 use Rattle.clause_store.specs.Clause.{variable, is_negated, truth, makes_true}
+use Rattle.clause_store.specs.declared.literal.Lit.{Lit}
 use Rattle.clause_store.specs.Trail.{step_of, value_by, value_of, is_yes, values_of}
+use Rattle.clause_store.specs.Trail.{IsTrailOf, KeepsTrails}
 use Rattle.clause_store.specs.Laws.{TrailStays, TotalMeans}
 
 pub slice_get-append : {X : Type 0} (xs ys : List X) (k : ℕ) (x : X) → slice_get xs k ≡ Some x
@@ -42,6 +44,14 @@ find_passes p (y ∷ xs) x is = go (p y) refl is (find_passes p xs x)
         → (find p xs ≡ Some x → p x ≡ true) → p x ≡ true
     go true passes same rest = subst (λ z. p z ≡ true) (same_Some y x same) passes
     go false fails later rest = rest later
+
+-- whether the clause was added or not, a trail of the old clauses is one of the new ones
+pub trails_after : {X E : Type 0} (result : Result X E) (old new : List (List Lit))
+    (clause : List Lit) → OnOk result (new ≡ old ++ clause ∷ []) → OnErr result (new ≡ old)
+    → KeepsTrails old new
+trails_after (Ok x) old new clause ok err steps is =
+    subst (IsTrailOf steps) (sym ok) (trail_stays old clause steps is)
+trails_after (Err e) old new clause ok err steps is = subst (IsTrailOf steps) (sym err) is
 
 -- ---- the assignment of a total trail
 

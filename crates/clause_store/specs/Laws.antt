@@ -1,14 +1,17 @@
 -- Laws of the words of this crate. Each is a clause of a function in src/laws.rt.
-use Rattle.std.specs.Prelude.{◌≡◌, ◌≢◌, ◌≤◌, ◌++◌, ℕ, Bool, List, [], ◌∷◌, All, AllPairs, Contains}
-use Rattle.std.specs.Prelude.{IsSomeAnd, IsTrue, ◌↔◌}
+use Rattle.std.specs.Prelude.{◌≡◌, ◌≢◌, ◌≤◌, ◌+◌, ◌++◌, ◌↔◌, ℕ, Bool, List, [], ◌∷◌, take, All}
+use Rattle.std.specs.Prelude.{AllPairs, Contains, IsSomeAnd, IsTrue}
 use Rattle.clause_store.specs.declared.literal.Lit.{Lit}
+use Rattle.clause_store.specs.declared.literal.ClauseRef.{ClauseRef}
 use Rattle.clause_store.specs.declared.literal.Value.TheVariants.{Yes, Unset}
 use Rattle.clause_store.specs.declared.step.Step.{Step}
-use Rattle.clause_store.specs.Clause.{variable, makes_true, IsTrueIn, Meets, HasAll, IsOver}
+use Rattle.clause_store.specs.Clause.{variable, makes_true, IsTrueIn, HoldsIn, Meets, HasAll}
+use Rattle.clause_store.specs.Clause.{IsOver, AreOver}
 use Rattle.clause_store.specs.Entailment.{Follows, InClosure, Refutes, Absorbs, AreUnits, IsUnit}
 use Rattle.clause_store.specs.Entailment.{negations}
-use Rattle.clause_store.specs.Trail.{Assigned, IsTrail, IsTotal, KeepsTrails, value_of, level_of}
-use Rattle.clause_store.specs.Trail.{up_to, values_of}
+use Rattle.clause_store.specs.Standing.{IsFalseOn, ForcesOn, IsConflict}
+use Rattle.clause_store.specs.Trail.{Assigned, IsTrail, IsTrailOf, IsTotal, KeepsTrails, value_of}
+use Rattle.clause_store.specs.Trail.{level_of, present_level, up_to, values_of}
 
 -- more clauses and more literals: each of one list is in the other
 abbrev pub AreMoreClauses : List (List Lit) → List (List Lit) → Type 0
@@ -107,3 +110,53 @@ FrontAfterBack =
 abbrev pub BackTwice : Type 0
 BackTwice =
     (low high : ℕ) (steps : List Step) → low ≤ high → up_to low (up_to high steps) ≡ up_to low steps
+
+-- a clause over the variables 1 to `vars` holds in an assignment exactly where it holds in the
+-- front of their values
+abbrev pub HoldsInFront : Type 0
+HoldsInFront =
+    (vars : ℕ) (values : List Bool) (clause : List Lit) → All (IsOver vars) clause
+    → HoldsIn values clause ↔ HoldsIn (take (vars + 1) values) clause
+
+-- and so for a list of such clauses
+abbrev pub MeetsInFront : Type 0
+MeetsInFront =
+    (vars : ℕ) (values : List Bool) (clauses : List (List Lit)) → AreOver vars clauses
+    → Meets values clauses ↔ Meets (take (vars + 1) values) clauses
+
+-- a literal has the value that it had, and its variable the level
+pub record IsStill (old new : List Step) (lit : Lit) : Type 0 where
+  pub value : value_of new lit ≡ value_of old lit
+  pub level : level_of new (variable lit) ≡ level_of old (variable lit)
+
+-- so it is for assigned literals when more assignments come last
+abbrev pub ValuesStay : Type 0
+ValuesStay =
+    (steps added : List Step) (lit : Lit) → value_of steps lit ≢ Unset
+    → IsStill steps (steps ++ added) lit
+
+-- a clause that forces a literal does so after going back to a level by which its other literals
+-- were assigned
+abbrev pub ForcesAfterBack : Type 0
+ForcesAfterBack =
+    (trail : Assigned) (level : ℕ) (clause : List Lit) (lit : Lit) → IsTrail trail
+    → ForcesOn trail.steps clause lit
+    → All (λ other. other ≢ lit → IsAssignedBy level trail.steps other) clause
+    → ForcesOn (up_to level trail.steps) clause lit
+
+-- a clause that is false by the assignments of level 0 of a trail means that the clauses of the
+-- trail, with this one, can't be met
+abbrev pub FalseAtZero : Type 0
+FalseAtZero =
+    (trail : Assigned) (clauses : List (List Lit)) (clause : List Lit) (values : List Bool)
+    → IsTrail trail → IsTrailOf trail.steps clauses → IsFalseOn (up_to 0 trail.steps) clause
+    → HoldsIn values clause
+    → ¬ Meets values clauses
+
+-- so a conflict while the trail is at level 0 means that the store can't be met
+abbrev pub ConflictAtZero : Type 0
+ConflictAtZero =
+    (trail : Assigned) (clauses : List (List Lit)) (at : ClauseRef) (values : List Bool)
+    → IsTrail trail → IsTrailOf trail.steps clauses → present_level trail.steps ≡ 0
+    → IsConflict clauses trail.steps at
+    → ¬ Meets values clauses

@@ -1,27 +1,31 @@
 -- How a store keeps its clauses. No public clause cites this module.
-use Rattle.std.specs.Prelude.{◌≡◌, ◌≤◌, ◌++◌, List, length, map, All, slice_range}
+use Rattle.std.specs.Prelude.{◌≡◌, ◌<◌, ◌≤◌, ◌^◌, ℕ, List, [], ◌∷◌, length, All, slice_range}
 use Rattle.clause_store.specs.declared.literal.Lit.{Lit}
-use Rattle.clause_store.specs.declared.store.Span.{Span}
 use Rattle.clause_store.specs.Clause.{IsClause}
 
--- the literals of a span
-abbrev pub cut : List Lit → Span → List Lit
-cut lits span = slice_range lits span.start span.end
+-- the parts of an array from one place to the first end, from there to the next, and so on
+abbrev pub cuts : List Lit → ℕ → List ℕ → List (List Lit)
+cuts lits start [] = []
+cuts lits start (end ∷ rest) = slice_range lits start end ∷ cuts lits end rest
 
--- the clauses that the spans cut out
-abbrev pub clauses_of : List Lit → List Span → List (List Lit)
-clauses_of lits spans = map (cut lits) spans
+-- the clauses between the bounds
+abbrev pub clauses_of : List Lit → List ℕ → List (List Lit)
+clauses_of lits [] = []
+clauses_of lits (start ∷ ends) = cuts lits start ends
 
--- a span lies within so many literals
-pub record IsSpan (lits : List Lit) (span : Span) : Type 0 where
-  pub order : span.start ≤ span.end
-  pub within : span.end ≤ length lits
+-- the ends rise from one place to the end of an array of that length
+abbrev pub RiseTo : ℕ → ℕ → List ℕ → Type 0
+RiseTo length start [] = start ≡ length
+RiseTo length start (end ∷ rest) = (start ≤ end) × RiseTo length end rest
 
--- each span lies within the literals and cuts out a clause
-pub record IsLaidOut (lits : List Lit) (spans : List Span) : Type 0 where
-  pub within : All (IsSpan lits) spans
-  pub allowed : All IsClause (clauses_of lits spans)
+-- the ends cut an array into clauses, few enough that each place and each number fits 32 bits
+pub record AreCut (lits : List Lit) (start : ℕ) (ends : List ℕ) : Type 0 where
+  pub rise : RiseTo (length lits) start ends
+  pub allowed : All IsClause (cuts lits start ends)
+  pub few_lits : length lits < 2 ^ 32
+  pub few_clauses : length ends < 2 ^ 32
 
--- literals were put behind others
-abbrev pub IsExtended : List Lit → List Lit → Type 0
-IsExtended old new = (rest : List Lit) × (new ≡ old ++ rest)
+-- there is a first bound, and the others are ends
+abbrev pub IsLaidOut : List Lit → List ℕ → Type 0
+IsLaidOut lits [] = ⊥
+IsLaidOut lits (start ∷ ends) = AreCut lits start ends

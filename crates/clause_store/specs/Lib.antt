@@ -9,3 +9,6 @@ pub mod Laws
 pub mod UnitLaws
 pub mod History
 pub mod HistoryLaws
+pub mod Progress
+pub mod ProgressLaws
+pub mod FollowedLaws

@@ -1,5 +1,5 @@
 -- How literals and clauses stand on a trail, and which assignments are followed.
-use Rattle.std.specs.Prelude.{◌≡◌, ◌≢◌, ℕ, List, length, map, take, slice_get, All, Any, Contains}
+use Rattle.std.specs.Prelude.{◌≡◌, ◌≢◌, ℕ, List, length, map, take, slice_get, All, Contains}
 use Rattle.std.specs.Prelude.{Some}
 use Rattle.clause_store.specs.declared.literal.Lit.{Lit}
 use Rattle.clause_store.specs.declared.literal.ClauseRef.{ClauseRef}
@@ -33,14 +33,6 @@ pub record Followed : Type 0 where
   pub lit : Lit
   pub level : ℕ
 
--- an assignment is one of the trail, with its level
-abbrev pub IsOn : List Step → Followed → Type 0
-IsOn steps it = Any (λ step. (step.lit ≡ it.lit) × (step.level ≡ it.level)) steps
-
--- each followed assignment is on the trail with its level
-abbrev pub AreOn : List Step → List Followed → Type 0
-AreOn steps followed = All (IsOn steps) followed
-
 -- an assignment as it is followed
 abbrev pub as_followed : Step → Followed
 as_followed step = record { lit = step.lit; level = step.level }
@@ -49,10 +41,16 @@ as_followed step = record { lit = step.lit; level = step.level }
 abbrev pub AreFollowed : List Step → List Followed → Type 0
 AreFollowed steps followed = followed ≡ map as_followed (take (length followed) steps)
 
--- they were a front of an earlier trail, and the trail is what that has up to a level
+-- the followed assignments were a front of an earlier trail, and the trail is what that has up to a
+-- level
 pub record HasGoneBack (trail : Assigned) (followed : List Followed) : Type 0 where
   pub earlier : List Step
   pub level : ℕ
   pub was_trail : IsTrail (record trail { steps = earlier })
   pub were_followed : AreFollowed earlier followed
   pub went_back : trail.steps ≡ up_to level earlier
+
+-- whatever was followed on the old trail has gone back on the new one
+abbrev pub GoesBack : Assigned → Assigned → Type 0
+GoesBack old new =
+    (followed : List Followed) → AreFollowed old.steps followed → HasGoneBack new followed

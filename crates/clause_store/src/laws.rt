@@ -8,6 +8,13 @@ ghost use Rattle.clause_store.specs.UnitLaws.{UnitsSplit, UnitsAreFew};
 ghost use Rattle.clause_store.specs.HistoryLaws.{HistoryHasUnits, HistoryIsRefuted, HistoryHolds};
 ghost use Rattle.clause_store.specs.HistoryLaws.{HistoriesCompose, HistoriesAdd, HistoryTakesGiven};
 ghost use Rattle.clause_store.specs.HistoryLaws.{HistoryTakesCounted};
+ghost use Rattle.clause_store.specs.Laws.{HoldsInFront, MeetsInFront};
+ghost use Rattle.clause_store.specs.Laws.{ValuesStay, ForcesAfterBack};
+ghost use Rattle.clause_store.specs.Laws.{FalseAtZero, ConflictAtZero};
+ghost use Rattle.clause_store.specs.ProgressLaws.{ProgressIsBounded, ProgressRises};
+ghost use Rattle.clause_store.specs.ProgressLaws.{ProgressRisesAfterBack, PresentAfterBack};
+ghost use Rattle.clause_store.specs.FollowedLaws.{FollowedWithMore, FollowedAfterBack};
+ghost use Rattle.clause_store.specs.FollowedLaws.{FollowedHasGoneBack, GoneBackFurther};
 
 /// The closure only grows with the clauses and with the literals.
 pub fn closure_grows()
@@ -136,4 +143,80 @@ pub fn history_takes_given()
 /// A counted clause that is new work beside all clauses that are there makes a history longer.
 pub fn history_takes_counted()
     ensures { HistoryTakesCounted }
+{}
+
+/// A clause over the variables 1 to v holds in an assignment exactly where it holds in its front of
+/// v + 1 values.
+pub fn holds_in_front()
+    ensures { HoldsInFront }
+{}
+
+/// An assignment meets clauses over the variables 1 to v exactly where its front of v + 1 values
+/// does.
+pub fn meets_in_front()
+    ensures { MeetsInFront }
+{}
+
+/// A literal with a value keeps it when assignments come last, and its variable keeps its level.
+pub fn values_stay()
+    ensures { ValuesStay }
+{}
+
+/// A clause that forces a literal does so after going back to a level by which its other literals
+/// were assigned.
+pub fn forces_after_back()
+    ensures { ForcesAfterBack }
+{}
+
+/// A clause that is false by the assignments of level 0 holds in no assignment that meets the
+/// clauses of the trail.
+pub fn false_at_zero()
+    ensures { FalseAtZero }
+{}
+
+/// A conflict while the trail is at level 0 means that no assignment meets the clauses.
+pub fn conflict_at_zero()
+    ensures { ConflictAtZero }
+{}
+
+/// Progress on a trail is less than a bound that its number of variables gives.
+pub fn progress_is_bounded()
+    ensures { ProgressIsBounded }
+{}
+
+/// Where there is no conflict, progress rises when assignments come last or a conflict is found.
+pub fn progress_rises()
+    ensures { ProgressRises }
+{}
+
+/// After a conflict, progress rises when the trail goes back to a lower level and there assignments
+/// come last or again a conflict is found.
+pub fn progress_rises_after_back()
+    ensures { ProgressRisesAfterBack }
+{}
+
+/// Going back to a level that there is makes it the present one.
+pub fn present_after_back()
+    ensures { PresentAfterBack }
+{}
+
+/// A followed front of a trail stays one when assignments come last.
+pub fn followed_with_more()
+    ensures { FollowedWithMore }
+{}
+
+/// Where followed assignments have gone back, those that are left are followed: as many as the
+/// trail has.
+pub fn followed_after_back()
+    ensures { FollowedAfterBack }
+{}
+
+/// What is followed has gone back to the present level.
+pub fn followed_has_gone_back()
+    ensures { FollowedHasGoneBack }
+{}
+
+/// What has gone back to a level has gone back when the trail goes back further.
+pub fn gone_back_further()
+    ensures { GoneBackFurther }
 {}

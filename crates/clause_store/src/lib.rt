@@ -4,6 +4,7 @@
 
 mod budget;
 mod clause;
+mod clause_arrays;
 pub mod laws;
 mod literal;
 mod step;
@@ -19,6 +20,3 @@ pub use step::Step;
 pub use store::Store;
 pub use theory_says::{Says, Short};
 pub use trail::Trail;
-
-#[cfg(test)]
-mod tests;

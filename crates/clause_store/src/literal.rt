@@ -40,11 +40,7 @@ impl Lit {
     pub fn negated(self) -> Lit
         ensures { result ≡ negation self }
     {
-        if self.0 % 2 == 0 {
-            Lit(self.0 + 1)
-        } else {
-            Lit(self.0 - 1)
-        }
+        Lit(self.0 ^ 1)
     }
 
     /// Whether the literal is the negation of its variable.

@@ -1,39 +1,31 @@
-// The literals of all clauses stand in one array, and each clause is a span of it. What a failed
-// `add` left in the array belongs to no span.
-ghost use Rattle.std.specs.Prelude.{◌≡◌, ◌<◌, [], ◌∷◌, ◌++◌, length, slice_get, Some, IfOk, OnOk};
-ghost use Rattle.std.specs.Prelude.{OnErr};
+// A store that has no clause has no arrays, so that opening one takes no memory and no allocator.
+ghost use Rattle.std.specs.Prelude.{◌≡◌, ◌<◌, ◌^◌, [], ◌∷◌, ◌++◌, length, slice_get, Some, IfOk};
+ghost use Rattle.std.specs.Prelude.{OnOk, OnErr};
 ghost use Rattle.clause_store.specs.Clause.{IsClause};
 ghost use Rattle.clause_store.specs.Trail.{KeepsTrails};
-ghost use Rattle.clause_store.specs.Layout.{IsExtended};
 
+use crate::clause_arrays::ClauseArrays;
 use crate::{ClauseRef, Lit};
-use item_list::{List, NoMemory};
+use item_list::NoMemory;
 use std::alloc::Global;
 use std::marker::Model;
 
-#[derive(Debug, Drop, Clone, Copy)]
-struct Span {
-    start: usize,
-    end: usize,
-}
-
 /// A list of clauses that only grows.
+///
+/// It holds at most 4,294,967,295 clauses, with as many literals in all.
 #[derive(Debug, Drop)]
 pub struct Store {
-    lits: List<Lit>,
-    spans: List<Span>,
+    held: Option<ClauseArrays>,
 }
 
 impl Model for Store {
-    ghost use Rattle.std.specs.Prelude.{List};
+    ghost use Rattle.std.specs.Prelude.{List, []};
+    ghost use Rattle.std.specs.Option.{option_map_or};
     ghost use Rattle.clause_store.specs.declared.literal.Lit.{Lit};
-    ghost use Rattle.clause_store.specs.Layout.{clauses_of, IsLaidOut};
 
     ghost Value = { List (List Lit) };
 
-    ghost view = { λ store. clauses_of store.lits store.spans };
-
-    ghost invariant = { λ store. IsLaidOut store.lits store.spans };
+    ghost view = { λ store. option_map_or (λ arrays. arrays) store.held [] };
 }
 
 impl Store {
@@ -41,14 +33,11 @@ impl Store {
     pub fn open() -> Store
         ensures { result ≡ [] }
     {
-        Store {
-            lits: List::open(),
-            spans: List::open(),
-        }
+        Store { held: None }
     }
 
     /// Puts the clause last. A trail of the store stays one. After want of memory the store is as
-    /// before.
+    /// before. A clause for which the store has no number or no place left is want of memory too.
     pub fn add(&mut self, alloc: Global, lits: &[Lit]) -> Result<ClauseRef, NoMemory>
         requires { IsClause lits.now }
         ensures at { IfOk result (λ at. at.0 ≡ length self.old) }
@@ -56,12 +45,7 @@ impl Store {
         ensures err { OnErr result (self.new ≡ self.old) }
         ensures trails { KeepsTrails self.old self.new }
     {
-        let at = self.spans.len();
-        let start = self.lits.len();
-        append(&mut self.lits, alloc, lits)?;
-        let end = self.lits.len();
-        self.spans.push(alloc, Span { start, end })?;
-        Ok(ClauseRef(at))
+        self.put(alloc, lits)
     }
 
     /// The literals of a clause, in the order in which they were added.
@@ -70,24 +54,50 @@ impl Store {
         ensures lits { slice_get self.now at.0 ≡ Some result.now }
         ensures clause { IsClause result.now }
     {
-        let span = self.spans.get(at.0);
-        &self.lits.as_slice()[span.start..span.end]
+        match &self.held {
+            Some(arrays) => arrays.lits(at),
+            None => unreachable!(),
+        }
     }
 
     /// The number of clauses.
     pub fn len(&self) -> usize
-        ensures { result ≡ length self.now }
+        ensures len { result ≡ length self.now }
+        ensures few { result < 2 ^ 32 }
     {
-        self.spans.len()
+        match &self.held {
+            Some(arrays) => arrays.len(),
+            None => 0,
+        }
     }
-}
 
-fn append(all: &mut List<Lit>, alloc: Global, lits: &[Lit]) -> Result<(), NoMemory>
-    ensures ok { OnOk result (all.new ≡ all.old ++ lits.now) }
-    ensures longer { IsExtended all.old all.new }
-{
-    for lit in lits {
-        all.push(alloc, *lit)?;
+    /// A store with the same clauses.
+    pub fn copy(&self, alloc: Global) -> Result<Store, NoMemory>
+        ensures { IfOk result (λ it. it ≡ self.now) }
+    {
+        match &self.held {
+            Some(arrays) => {
+                let again = arrays.copy(alloc)?;
+                Ok(Store { held: Some(again) })
+            }
+            None => Ok(Store::open()),
+        }
     }
-    Ok(())
+    /// Puts the clause last.
+    fn put(&mut self, alloc: Global, lits: &[Lit]) -> Result<ClauseRef, NoMemory>
+        requires { IsClause lits.now }
+        ensures at { IfOk result (λ at. at.0 ≡ length self.old) }
+        ensures ok { OnOk result (self.new ≡ self.old ++ lits.now ∷ []) }
+        ensures err { OnErr result (self.new ≡ self.old) }
+    {
+        match &mut self.held {
+            Some(arrays) => arrays.add(lits),
+            None => {
+                let mut arrays = ClauseArrays::open(alloc)?;
+                let at = arrays.add(lits)?;
+                self.held = Some(arrays);
+                Ok(at)
+            }
+        }
+    }
 }

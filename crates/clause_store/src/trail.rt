@@ -7,6 +7,7 @@ ghost use Rattle.clause_store.specs.Clause.{IsOver};
 ghost use Rattle.clause_store.specs.Trail.{IsTrail, IsTrailOf, IsReasonFor, StaysTrail, step_of};
 ghost use Rattle.clause_store.specs.Trail.{place_of, value_of, reason_of, level_of, present_level};
 ghost use Rattle.clause_store.specs.Trail.{next_level, up_to};
+ghost use Rattle.clause_store.specs.Standing.{GoesBack};
 ghost use Rattle.clause_store.specs.Arrays.{IsWithoutLast};
 
 use crate::{ClauseRef, Lit, Step, Store, Value, Var};
@@ -40,7 +41,8 @@ impl Trail {
     /// The empty trail over the variables 1 to `vars`. All other calls take no memory.
     pub fn open(alloc: Global, vars: u32) -> Result<Trail, NoMemory>
         requires { vars < 2 ^ 31 }
-        ensures { IfOk result (λ trail. trail ≡ record { vars = vars; steps = [] }) }
+        ensures empty { IfOk result (λ trail. trail ≡ record { vars = vars; steps = [] }) }
+        ensures trail { IfOk result IsTrail }
     {
         let count = vars as usize;
         let steps = Vec::with_capacity(alloc, count)?;
@@ -52,6 +54,13 @@ impl Trail {
             places,
             values,
         })
+    }
+
+    /// The trail is one, as contracts know it then. It does nothing when it runs.
+    pub fn vouch(&self)
+        ensures { IsTrail self.now }
+    {
+        let _ = &self.vars;
     }
 
     /// The greatest variable.
@@ -158,6 +167,7 @@ impl Trail {
                         present_level self.old.steps + 1;
                   } ∷ [];
             } }
+        ensures trail { IsTrail self.new }
         ensures stays { StaysTrail self.old.steps self.new.steps }
     {
         let level = self.level() + 1;
@@ -166,6 +176,7 @@ impl Trail {
             reason: None,
             level,
         });
+        self.vouch();
     }
 
     /// Makes an unset literal true because the clause `why` of the store forces it.
@@ -185,6 +196,7 @@ impl Trail {
                         present_level self.old.steps;
                   } ∷ [];
             } }
+        ensures trail { IsTrail self.new }
         ensures of_store { IsTrailOf self.new.steps store.now }
     {
         let level = self.level();
@@ -193,6 +205,7 @@ impl Trail {
             reason: Some(why),
             level,
         });
+        self.vouch();
     }
 
     /// Undoes just the assignments of higher levels.
@@ -200,11 +213,15 @@ impl Trail {
         requires { level ≤ present_level self.old.steps }
         ensures steps { self.new ≡ record self.old { steps = up_to level self.old.steps } }
         ensures level { present_level self.new.steps ≡ level }
+        ensures trail { IsTrail self.new }
         ensures stays { StaysTrail self.old.steps self.new.steps }
+        ensures back { GoesBack self.old self.new }
     {
+        self.vouch();
         while self.level() > level {
             self.undo();
         }
+        self.vouch();
     }
 
     /// Puts an assignment last.

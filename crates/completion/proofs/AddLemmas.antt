@@ -15,7 +15,7 @@ use Rattle.clause_store.specs.Clause.{variable, negation, IsClause}
 use Rattle.clause_store.proofs.LiteralLemmas.{lit_of_code}
 use Rattle.normal_program.specs.Clauses.{is_lit, has_lit, each_once, is_tautology, cleaned}
 use Rattle.completion.specs.Filling.{coded}
-use Rattle.completion.proofs.CleanLemmas.{kept_from, once_from}
+use Rattle.normal_program.proofs.lemmas.Base.CleanLemmas.{kept_from, once_from}
 
 -- a literal is sought among codes
 pub has_lit-coded : (codes : List ℕ) (lit : Lit)

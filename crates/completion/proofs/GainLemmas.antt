@@ -20,6 +20,8 @@ use Rattle.normal_program.specs.Clauses.{is_tautology, cleaned, base_clauses, bo
 use Rattle.normal_program.specs.Clauses.{numbered_bodies, rule_clauses, support_clause}
 use Rattle.normal_program.specs.Clauses.{atoms_of_normal, compute_clauses}
 use Rattle.normal_program.specs.declared.normal.Normal.{Normal}
+use Rattle.normal_program.proofs.lemmas.Base.TruthLemmas.{variable-positive, variable-negative}
+use Rattle.normal_program.proofs.lemmas.Base.TruthLemmas.{variable-literal_of}
 use Rattle.completion.specs.Filling.{Gains, GainsFirst, IsVar}
 
 -- clauses are cleaned one by one
@@ -106,20 +108,6 @@ OnErr-from (Err e) P fact = fact
 pub mapped_apart : {X : Type 0} (f : X → List Lit) (xs ys : List X)
     → map f (xs ++ ys) ≡ map f xs ++ map f ys
 mapped_apart f xs ys = map-append f xs ys
-
--- the variables of literals
-pub variable-positive : (var : ℕ) → variable (positive var) ≡ var
-variable-positive var = omega arith
-
-pub variable-negative : (var : ℕ) → variable (negative var) ≡ var
-variable-negative var = omega arith
-
-pub variable-literal_of : (lit : AtomLit) → variable (literal_of lit) ≡ lit.atom
-variable-literal_of lit = by lit.negated
-  where
-    by : (b : Bool) → variable (if b then negative lit.atom else positive lit.atom) ≡ lit.atom
-    by true = variable-negative lit.atom
-    by false = variable-positive lit.atom
 
 -- all literals of a clause of a variable and literals have variables
 pub vars-positive : (var : ℕ) (atoms : List ℕ) → 1 ≤ var → All IsVar atoms

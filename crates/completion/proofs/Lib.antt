@@ -1,11 +1,3 @@
-pub mod TruthLemmas
-pub mod CleanLemmas
-pub mod BodyLemmas
-pub mod RuleLemmas
-pub mod SupportLemmas
-pub mod EntailedLemmas
-pub mod ModelLemmas
 pub mod AddLemmas
 pub mod GainLemmas
 pub mod RowLemmas
-pub mod OverLemmas

@@ -20,8 +20,8 @@ use Rattle.normal_program.specs.Clauses.{is_tautology, cleaned, support_clause, 
 use Rattle.completion.specs.Filling.{supports_of}
 use Rattle.completion.specs.Rows.{AreSupports, NotesAll}
 use Rattle.completion.proofs.AddLemmas.{each_once-push, cleaned-one}
-use Rattle.completion.proofs.CleanLemmas.{once_has}
-use Rattle.completion.proofs.GainLemmas.{variable-positive}
+use Rattle.normal_program.proofs.lemmas.Base.CleanLemmas.{once_has}
+use Rattle.normal_program.proofs.lemmas.Base.TruthLemmas.{variable-positive}
 
 -- no head yet
 pub NotesAll-none : (lit : Lit) (rows : List (List Lit)) → NotesAll [] lit rows rows

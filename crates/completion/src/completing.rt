@@ -5,10 +5,10 @@ ghost use Rattle.clause_store.specs.Trail.{KeepsTrails};
 ghost use Rattle.normal_program.specs.Normal.{greatest_body_var};
 ghost use Rattle.normal_program.specs.Clauses.{base_clauses, body_clauses, numbered_bodies};
 ghost use Rattle.normal_program.specs.Clauses.{rule_clauses, support_clause, atoms_of_normal};
-ghost use Rattle.normal_program.specs.Clauses.{compute_clauses, cleaned};
+ghost use Rattle.normal_program.specs.Clauses.{compute_clauses, cleaned, AreEntailed};
+ghost use Rattle.normal_program.specs.Models.{MakeModels};
 ghost use Rattle.normal_program.specs.Limit.{IsNormal};
 ghost use Rattle.normal_program.specs.Range.{IsInRange};
-ghost use Rattle.completion.specs.Completion.{AreEntailed, MakeModels};
 ghost use Rattle.completion.specs.Filling.{Gains, GainsFirst};
 
 use crate::body_clauses::add_bodies;

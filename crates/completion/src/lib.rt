@@ -4,12 +4,11 @@
 mod body_clauses;
 mod clean_clauses;
 mod completing;
-mod laws;
 mod rule_clauses;
 mod support_clauses;
 
 pub use completing::complete;
-pub use laws::{
+pub use normal_program::{
     base_clauses_are_entailed, base_clauses_are_over_atoms_and_bodies, base_clauses_make_models,
 };
 

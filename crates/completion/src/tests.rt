@@ -2,7 +2,9 @@
 // each clause.
 use crate::complete;
 use clause_store::{ClauseRef, Store};
-use ground_program::{AtomLit, Atoms, Body, Kind, Names, Program, Rule, Rules, Weighted, is_valid};
+use ground_program::{
+    AtomLit, Atoms, Body, Heads, Kind, Names, Program, Rule, Rules, Weighted, is_valid,
+};
 use item_list::NoMemory;
 use rule_normaliser::{NormalError, normalise};
 use std::alloc::Global;
@@ -45,10 +47,7 @@ static CASES: [Case; 3] = [
 
 fn rule_of(alloc: Global, line: &Line) -> Result<Rule, NoMemory> {
     let (kind, atoms, bound, literals) = *line;
-    let mut heads = Atoms::open();
-    for head in atoms {
-        heads.push(alloc, *head)?;
-    }
+    let heads = Heads::from_slice(alloc, atoms)?;
     let mut body = Body::open();
     for (atom, negated) in literals {
         let lit = AtomLit {
@@ -70,8 +69,7 @@ fn program_of(alloc: Global, case: &Case) -> Result<Program, NoMemory> {
     for line in case.lines {
         rules.push(alloc, rule_of(alloc, line)?)?;
     }
-    let mut must_not = Atoms::open();
-    must_not.push(alloc, 1)?;
+    let must_not = Atoms::from_slice(alloc, &[1])?;
     Ok(Program {
         atoms: case.atoms,
         rules,

@@ -374,22 +374,22 @@ cells_begin trail last failed core adds =
     }
 
 -- the failed literal itself can be marked
-refused_markable : (trail : Assigned) (last : ℕ) (failed : Lit) → IsOver trail.vars failed
+failed_markable : (trail : Assigned) (last : ℕ) (failed : Lit) → IsOver trail.vars failed
     → place_of trail.steps (variable failed) ≡ Some last → IsMarkable trail last failed
-refused_markable trail last failed over at =
+failed_markable trail last failed over at =
     record {
       over = over.last;
       before = λ place found. let same : last ≡ place = same_Some last place (sym at ∙ found) in
           omega arith;
     }
 
-refused_marked : (trail : Assigned) (last : ℕ) (failed : Lit) (blanks marked : List Lit)
+failed_marked : (trail : Assigned) (last : ℕ) (failed : Lit) (blanks marked : List Lit)
     → IsOver trail.vars failed → place_of trail.steps (variable failed) ≡ Some last
     → MarksCell trail.steps last failed blanks marked
     → MarksAll trail.steps last (failed ∷ []) blanks marked
-refused_marked trail last failed blanks marked over at marks =
+failed_marked trail last failed blanks marked over at marks =
     marks_more trail last [] failed blanks blanks marked
-    (refused_markable trail last failed over at) (marks_none trail.steps last blanks) marks
+    (failed_markable trail last failed over at) (marks_none trail.steps last blanks) marks
 
 pub cells_start : (trail : Assigned) (last : ℕ) (failed : Lit) (blanks marked : List Lit)
     → IsOver trail.vars failed → place_of trail.steps (variable failed) ≡ Some last
@@ -397,9 +397,9 @@ pub cells_start : (trail : Assigned) (last : ℕ) (failed : Lit) (blanks marked 
     → AreCells trail.steps last marked
 cells_start trail last failed blanks marked over at adds marks =
     cells_marked trail last (failed ∷ []) blanks marked (cells_begin trail last failed blanks adds)
-    (All-cons (IsMarkable trail last) failed [] (refused_markable trail last failed over at)
+    (All-cons (IsMarkable trail last) failed [] (failed_markable trail last failed over at)
     (All-nil (IsMarkable trail last)))
-    (refused_marked trail last failed blanks marked over at marks)
+    (failed_marked trail last failed blanks marked over at marks)
 
 -- the first cell is that of the failed literal
 first_stays : (trail : Assigned) (last : ℕ) (failed : Lit) (blanks marked : List Lit)
@@ -407,27 +407,27 @@ first_stays : (trail : Assigned) (last : ℕ) (failed : Lit) (blanks marked : Li
     → AddsBlanks trail last (failed ∷ []) blanks → MarksCell trail.steps last failed blanks marked
     → cell marked 0 ≡ failed
 first_stays trail last failed blanks marked over at adds marks =
-    elim ((refused_marked trail last failed blanks marked over at marks).stays 0) [
+    elim ((failed_marked trail last failed blanks marked over at marks).stays 0) [
       | inl same ↦ same ∙ ap (λ xs. cell xs 0) adds.is
       | inr some ↦
           let low : some.4.place ≤ last = (All-contains (IsMarkable trail last) (failed ∷ []) some.1
-          (All-cons (IsMarkable trail last) failed [] (refused_markable trail last failed over at)
+          (All-cons (IsMarkable trail last) failed [] (failed_markable trail last failed over at)
           (All-nil (IsMarkable trail last)))
           (some.0, some.2, some.3)).before some.4.place some.4.found in
           absurd (omega (arith, some.4.at_is, low))
     ]
 
 -- the literals behind the failed one give its negation
-gives_refused : (clauses : List (List Lit)) (trail : Assigned) (last : ℕ) (failed : Lit)
+gives_failed : (clauses : List (List Lit)) (trail : Assigned) (last : ℕ) (failed : Lit)
     (blanks marked known : List Lit) → IsTrailOf trail.steps clauses → IsOver trail.vars failed
     → IsFalse trail.steps failed → place_of trail.steps (variable failed) ≡ Some last
     → AddsBlanks trail last (failed ∷ []) blanks
     → MarksCell trail.steps last failed blanks marked
     → IsClosed clauses known → HasFilled known marked → Contains known (negation failed)
-gives_refused clauses trail last failed blanks marked known of over wrong at adds marks closed has =
+gives_failed clauses trail last failed blanks marked known of over wrong at adds marks closed has =
     let by = false_anywhere trail failed adds.is_trail wrong in
     let same : by.place ≡ last = same_Some by.place last (sym by.found ∙ at) in
-    let all = refused_marked trail last failed blanks marked over at marks in
+    let all = failed_marked trail last failed blanks marked over at marks in
     subst (Contains known) by.negates (elim (cases_lt (last + 1) (by.place + length blanks)) [
       | inl within ↦
           let holds : cell marked (last + 1 - by.place) ≡ by.step.lit =
@@ -533,12 +533,12 @@ core_of clauses trail last failed blanks marked rest of over wrong at adds marks
           all_decided clauses trail.steps last marked failed rest
           (place_within trail.steps (variable failed) last at) all;
       gives = λ known has closed.
-          gives_refused clauses trail last failed blanks marked known of over wrong at adds marks
+          gives_failed clauses trail last failed blanks marked known of over wrong at adds marks
           closed (all.gives known closed (filled_kept failed rest known has));
       alone = λ level.
           ap (filter (λ lit. not (is_blank lit)))
           (alone_ground clauses trail last failed blanks marked rest wrong at adds
-          (refused_marked trail last failed blanks marked over at marks).sized all level);
+          (failed_marked trail last failed blanks marked over at marks).sized all level);
     }
 
 pub adds_decisions : (clauses : List (List Lit)) (trail : Assigned) (last : ℕ) (failed : Lit)

@@ -7,4 +7,3 @@ pub mod LearnedLemmas
 pub mod CellLemmas
 pub mod CoreLemmas
 pub mod UnitLemmas
-pub mod TestLemmas

@@ -12,6 +12,3 @@ mod walk;
 pub use analysis::{analyse, greatest_level};
 pub use assumption_core::final_core;
 pub use learned::Learned;
-
-#[cfg(test)]
-mod tests;

@@ -3,3 +3,4 @@ pub mod Meaning
 pub mod Bounds
 pub mod Models
 pub mod Validity
+pub mod Held

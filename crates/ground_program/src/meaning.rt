@@ -1,8 +1,8 @@
 // Which rules of a reduct a set keeps, and what a set that is no model breaks first.
 ghost use Rattle.std.specs.Prelude.{◌≡◌, ◌≤◌, ◌+◌, ◌↔◌, length, sum_by, find, not, map};
-ghost use Rattle.std.specs.Prelude.{option_copied, IsTrue, IsOk, IfErr, MatchOption};
+ghost use Rattle.std.specs.Prelude.{option_copied, All, IsTrue, IsOk, IfErr, MatchOption};
 ghost use Rattle.ground_program.specs.Meaning.{has, counts, weight_in, HeadHolds, Keeps, KeepsAll};
-ghost use Rattle.ground_program.specs.Meaning.{MeetsCompute};
+ghost use Rattle.ground_program.specs.Meaning.{IsIn, MeetsCompute};
 ghost use Rattle.ground_program.specs.Models.{IsModel, IsFirstFailing, IsFirstUnmet, BreaksFirst};
 ghost use Rattle.ground_program.specs.Program.{IsProgram};
 
@@ -31,6 +31,26 @@ pub fn is_model(program: &Program, set: &Set) -> Result<(), Broken>
         None => Ok(()),
         Some(atom) => Err(Broken::Compute(atom)),
     }
+}
+
+/// Whether the set has each atom that the program asks for and none that it forbids.
+pub fn meets_compute(program: &Program, set: &Set) -> bool
+    ensures { IsTrue result ↔ MeetsCompute program.now set.now }
+{
+    let set = set.as_slice();
+    has_all(set, program.must.as_slice()) && has_none(set, program.must_not.as_slice())
+}
+
+fn has_all(set: &[bool], atoms: &[u32]) -> bool
+    ensures { IsTrue result ↔ All (IsIn set.now) atoms.now }
+{
+    atoms.iter().all(|atom| has_atom(set, *atom))
+}
+
+fn has_none(set: &[bool], atoms: &[u32]) -> bool
+    ensures { IsTrue result ↔ All (λ atom. ¬ IsIn set.now atom) atoms.now }
+{
+    atoms.iter().all(|atom| !has_atom(set, *atom))
 }
 
 /// The first rule that fails by the set in the set.

@@ -1,5 +1,5 @@
 // A ground program as the numeric format of lparse and smodels has it, with disjunction.
-use crate::Pair;
+use crate::{Body, Heads, Pair};
 use item_list::{Copied, List, NoMemory};
 use std::alloc::Global;
 
@@ -11,8 +11,6 @@ pub type Set = List<bool>;
 pub type Bits = List<bool>;
 /// The bytes of a name.
 pub type Name = List<u8>;
-/// The literals of a body with their weights.
-pub type Body = List<Weighted>;
 /// The rules of a program in the order of its text.
 pub type Rules = List<Rule>;
 /// The symbol table. Its places, counted from 1, are the candidates.
@@ -69,10 +67,10 @@ pub struct Weighted {
 pub struct Rule {
     /// What the heads and the body mean.
     pub kind: Kind,
-    /// The head atoms, exactly one for basic, constraint and weight rules.
-    pub heads: Atoms,
     /// What the weights must reach. For basic, choice and disjunctive rules the number of literals.
     pub bound: u32,
+    /// The head atoms, exactly one for basic, constraint and weight rules.
+    pub heads: Heads,
     /// The negative literals and then the positive ones.
     pub body: Body,
 }
@@ -124,8 +122,8 @@ impl Copied for Rule {
         let body = self.body.copy(alloc)?;
         Ok(Rule {
             kind: self.kind,
-            heads,
             bound: self.bound,
+            heads,
             body,
         })
     }

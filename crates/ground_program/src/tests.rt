@@ -1,18 +1,10 @@
 // Small programs whose answer sets are known.
 use crate::{
-    AtomLit, Atoms, Body, Broken, Kind, Name, Named, Names, NoMemory, Pair, Pairs, Program, Rule,
-    Rules, Set, Sets, Weighted, holds_in, is_model, is_valid,
+    AtomLit, Atoms, Body, Broken, Heads, Kind, Name, Named, Names, NoMemory, Pair, Pairs, Program,
+    Rule, Rules, Set, Sets, Weighted, holds_in, is_model, is_valid,
 };
 use std::alloc::Global;
 use std::test::Fail;
-
-fn atoms_of(alloc: Global, numbers: &[u32]) -> Result<Atoms, NoMemory> {
-    let mut atoms = Atoms::open();
-    for number in numbers {
-        atoms.push(alloc, *number)?;
-    }
-    Ok(atoms)
-}
 
 fn body_of(alloc: Global, negative: &[u32], positive: &[(u32, u32)]) -> Result<Body, NoMemory> {
     let mut body = Body::open();
@@ -47,7 +39,7 @@ fn rule_of(
     negative: &[u32],
     positive: &[(u32, u32)],
 ) -> Result<Rule, NoMemory> {
-    let heads = atoms_of(alloc, heads)?;
+    let heads = Heads::from_slice(alloc, heads)?;
     let body = body_of(alloc, negative, positive)?;
     Ok(Rule {
         kind,
@@ -55,14 +47,6 @@ fn rule_of(
         bound,
         body,
     })
-}
-
-fn name_of(alloc: Global, letters: &[u8]) -> Result<Name, NoMemory> {
-    let mut name = Name::open();
-    for letter in letters {
-        name.push(alloc, *letter)?;
-    }
-    Ok(name)
 }
 
 /// The program over the atoms 2 to `last`, each with a name, and with atom 1 forbidden.
@@ -73,7 +57,7 @@ fn program_of(alloc: Global, last: u32, rules: Rules) -> Result<Program, NoMemor
             alloc,
             Named {
                 atom,
-                name: name_of(alloc, b"a")?,
+                name: Name::from_slice(alloc, b"a")?,
             },
         )?;
     }
@@ -81,10 +65,10 @@ fn program_of(alloc: Global, last: u32, rules: Rules) -> Result<Program, NoMemor
         alloc,
         Named {
             atom: last,
-            name: name_of(alloc, b"z")?,
+            name: Name::from_slice(alloc, b"z")?,
         },
     )?;
-    let must_not = atoms_of(alloc, &[1])?;
+    let must_not = Atoms::from_slice(alloc, &[1])?;
     Ok(Program {
         atoms: last,
         rules,
@@ -162,7 +146,7 @@ fn breach_of(
     atoms: &[u32],
 ) -> Result<Result<(), Broken>, NoMemory> {
     let mut program = program_at(alloc, which)?;
-    program.must = atoms_of(alloc, must)?;
+    program.must = Atoms::from_slice(alloc, must)?;
     let set = set_of(alloc, program.atoms, atoms)?;
     if !is_valid(&program) || set.len() as u64 != program.atoms as u64 + 1 {
         return Ok(Err(Broken::Rule(99)));
@@ -200,7 +184,7 @@ fn fits(
 /// Whether a program with this name besides is one of the format.
 fn name_fits(alloc: Global, letters: &[u8]) -> Result<bool, NoMemory> {
     let mut program = either(alloc)?;
-    let name = name_of(alloc, letters)?;
+    let name = Name::from_slice(alloc, letters)?;
     program.names.push(alloc, Named { atom: 3, name })?;
     Ok(is_valid(&program))
 }
@@ -307,7 +291,7 @@ fn lists_and_pairs_are_made_again(rt: HostRuntime) -> Result<(), Fail> {
     assert!(rt; pair.lower.len() == 3 && pair.upper.len() == 3);
     pair.lower.set(1, true);
     assert!(rt; pair.lower_len() == 1 && pair.upper_len() == 3);
-    let mut atoms = atoms_of(alloc, &[7, 8])?;
+    let mut atoms = Atoms::from_slice(alloc, &[7, 8])?;
     assert!(rt; atoms.len() == 2);
     assert!(rt; *atoms.get(1) == 8);
     atoms.clear();

@@ -105,6 +105,16 @@ impl<T: Drop> List<T> {
     }
 }
 
+impl<T: Copy> List<T> {
+    /// The list of these items. It takes memory once, and just as much as they need.
+    pub fn from_slice(alloc: Global, items: &[T]) -> Result<List<T>, NoMemory>
+        ensures { IfOk result (λ it. it ≡ items.now) }
+    {
+        let held = Vec::from_slice(alloc, items)?;
+        Ok(List { held: Some(held) })
+    }
+}
+
 impl<T: Copied + Drop> List<T> {
     /// The same list again.
     pub fn copy(&self, alloc: Global) -> Result<List<T>, NoMemory>

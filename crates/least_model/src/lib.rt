@@ -11,5 +11,4 @@ mod tests;
 
 pub use definite::first_other_rule;
 pub use laws::{consequences_are_in_set, no_answer_set};
-pub use membership::meets_compute;
 pub use rounds::least_model;

@@ -7,7 +7,8 @@ ghost use Rattle.least_model.specs.Definite.{IsDefinite};
 ghost use Rattle.least_model.specs.Rounds.{IsEmptySet, Suits, TriesAll, TriesRule};
 
 use crate::membership::has_body;
-use ground_program::{List, NoMemory, Program, Rule, Set, has_atom};
+use ground_program::{Program, Rule, Set, has_atom};
+use item_list::{List, NoMemory};
 use std::alloc::Global;
 
 /// The atoms that the rules force. Only this set can be an answer set, and it is one where it

@@ -1,6 +1,9 @@
 // Small programs with their least models, worked out by hand.
-use crate::{consequences_are_in_set, first_other_rule, least_model, meets_compute, no_answer_set};
-use ground_program::{AtomLit, Kind, List, NoMemory, Program, Rule, Set, Weighted, is_valid};
+use crate::{consequences_are_in_set, first_other_rule, least_model, no_answer_set};
+use ground_program::{
+    AtomLit, Atoms, Body, Heads, Kind, Program, Rule, Set, Weighted, is_valid, meets_compute,
+};
+use item_list::{List, NoMemory};
 use std::alloc::Global;
 use std::process::Abort;
 use std::test::Fail;
@@ -138,8 +141,8 @@ fn program_of(alloc: Global, case: &Case) -> Result<Program, NoMemory> {
         atoms: case.atoms,
         rules,
         names: List::open(),
-        must: atoms_of(alloc, case.must)?,
-        must_not: atoms_of(alloc, case.must_not)?,
+        must: Atoms::from_slice(alloc, case.must)?,
+        must_not: Atoms::from_slice(alloc, case.must_not)?,
         models: 1,
     })
 }
@@ -151,7 +154,7 @@ fn rule_of(
     atoms: &[u32],
     negated: bool,
 ) -> Result<Rule, NoMemory> {
-    let mut body = List::open();
+    let mut body = Body::open();
     for atom in atoms {
         let lit = AtomLit {
             atom: *atom,
@@ -161,16 +164,8 @@ fn rule_of(
     }
     Ok(Rule {
         kind,
-        heads: atoms_of(alloc, &[head])?,
+        heads: Heads::one(head),
         bound: u32::try_from(atoms.len()).unwrap_or(0),
         body,
     })
-}
-
-fn atoms_of(alloc: Global, atoms: &[u32]) -> Result<List<u32>, NoMemory> {
-    let mut made = List::open();
-    for atom in atoms {
-        made.push(alloc, *atom)?;
-    }
-    Ok(made)
 }

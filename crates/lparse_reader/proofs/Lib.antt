@@ -20,3 +20,5 @@ pub mod TextPrograms
 pub mod WholeFollows
 pub mod OneOutcome
 pub mod RefusalLemmas
+mod OutcomeLaw
+mod SourceLemmas

@@ -12,7 +12,7 @@ use Rattle.lparse_reader.specs.Reading.{program_at}
 use Rattle.lparse_reader.specs.Refusal.{IsReadAnswer, told}
 use Rattle.lparse_reader.specs.Due.{whole}
 use Rattle.lparse_reader.specs.Refuses.{Breaks, Refuses, IsRefused, IsTextUnlessNoMemory}
-use Rattle.lparse_reader.specs.Refuses.{IsRefusedOfSource, IsTextUnlessSource}
+use Rattle.lparse_reader.specs.Refuses.{IsTextUnlessSource}
 use Rattle.lparse_reader.proofs.WholeFollows.{program_passes, program_breaks}
 use Rattle.lparse_reader.proofs.OneOutcome.{same_outcome}
 
@@ -31,7 +31,7 @@ answer_refused bytes (Err (Text why line value)) few answer =
     }
 
 -- a text that breaks so is read as that fault
-one_fault : (bytes : List ℕ) (first second : Fault) → length bytes ≤ 67108864
+pub one_fault : (bytes : List ℕ) (first second : Fault) → length bytes ≤ 67108864
     → Breaks whole bytes first → program_at bytes ≡ Err second → first ≡ second
 one_fault bytes first second few breaks e =
     let other = program_breaks bytes second (omega (arith, few)) e in
@@ -43,7 +43,8 @@ one_fault bytes first second few breaks e =
     some_fault : (f g : Fault) → Some f ≡ Some g → f ≡ g
     some_fault f g e = cc
 
-no_program : (bytes : List ℕ) (fault : Fault) (program : Program) → length bytes ≤ 67108864
+-- a text that breaks isn't read as a program
+pub no_program : (bytes : List ℕ) (fault : Fault) (program : Program) → length bytes ≤ 67108864
     → Breaks whole bytes fault → program_at bytes ≡ Ok program → ⊥
 no_program bytes fault program few breaks e =
     let all = program_passes bytes program (omega (arith, few)) e in
@@ -75,26 +76,7 @@ source_text (Err TooLong) why line value h = h
 source_text (Err ReadFault) why line value h = tt
 source_text (Err (Text w l v)) why line value h = h
 
-source_refusal : (bytes : List ℕ) (error : ReadError) → IsRefused bytes error
-    → IsRefusedOfSource bytes error
-source_refusal bytes NoMemory h = tt
-source_refusal bytes TooLong h = tt
-source_refusal bytes ReadFault h = tt
-source_refusal bytes (Text why line value) h = h
-
-told_refusal : (left : Option (List ℕ)) (bytes : List ℕ) (error : ReadError)
-    → IfSome left (λ told. bytes ≡ told) → IsRefused bytes error
-    → IfSome left (λ told. IsRefusedOfSource told error)
-told_refusal None bytes error same refused = tt
-told_refusal (Some told) bytes error same refused =
-    subst (λ (b : List ℕ). IsRefusedOfSource b error) same (source_refusal bytes error refused)
-
-pub source_refused : (left : Option (List ℕ)) (bytes : List ℕ) (result : Result Program ReadError)
-    → IfSome left (λ told. bytes ≡ told) → IfErr result (IsRefused bytes)
-    → IfErr result (λ error. IfSome left (λ told. IsRefusedOfSource told error))
-source_refused left bytes (Ok program) same refused = tt
-source_refused left bytes (Err error) same refused = told_refusal left bytes error same refused
-
+-- what is refused is told so of the bytes that a source told
 pub source_all_refused : (left : Option (List ℕ)) (bytes : List ℕ)
     (result : Result Program ReadError) → IfSome left (λ told. bytes ≡ told)
     → ((why : TextFault) (line value : ℕ) → Refuses bytes why line value

@@ -1,5 +1,5 @@
 -- How the first fault of a text is told.
-use Rattle.std.specs.Prelude.{◌≡◌, ◌≤◌, ℕ, List, length, Result, Ok, Err}
+use Rattle.std.specs.Prelude.{◌≡◌, ℕ, List, length, Result, Ok, Err}
 use Rattle.ground_program.specs.declared.program.Program.{Program}
 use Rattle.lparse_reader.specs.declared.fault.TextFault.TheVariants.{EndOfInput}
 use Rattle.lparse_reader.specs.declared.fault.Fault.{Fault}
@@ -35,15 +35,6 @@ abbrev pub IsReadAnswer : {A : Type 0} → List ℕ → Result A ReadError → R
 IsReadAnswer text (Ok value) reading = reading ≡ Ok value
 IsReadAnswer text (Err error) reading = IsRefusal text error reading
 
--- this result is what a reading of the text gives, unless its source failed or had too many bytes
-abbrev pub IsAnswerOfSource : {A : Type 0} → List ℕ → Result A ReadError → Result A Fault → Type 0
-IsAnswerOfSource text (Ok value) reading = reading ≡ Ok value
-IsAnswerOfSource text (Err NoMemory) reading = Unit {0}
-IsAnswerOfSource text (Err TooLong) reading = Unit {0}
-IsAnswerOfSource text (Err ReadFault) reading = Unit {0}
-IsAnswerOfSource text (Err (Text why line value)) reading =
-    IsRefusal text (Text why line value) reading
-
 -- this result is the program, unless its source failed or memory ran out
 abbrev pub IsProgramUnlessSource : Result Program ReadError → Program → Type 0
 IsProgramUnlessSource (Ok found) program = found ≡ program
@@ -52,10 +43,10 @@ IsProgramUnlessSource (Err TooLong) program = ⊥
 IsProgramUnlessSource (Err ReadFault) program = Unit {0}
 IsProgramUnlessSource (Err (Text why line value)) program = ⊥
 
--- a text that gives a program or has a fault isn't too long
-abbrev pub IsShortIfRead : {A : Type 0} → Result A ReadError → List ℕ → Type 0
-IsShortIfRead (Ok value) text = length text ≤ 67108864
-IsShortIfRead (Err (Text why line value)) text = length text ≤ 67108864
-IsShortIfRead (Err NoMemory) text = Unit {0}
-IsShortIfRead (Err TooLong) text = Unit {0}
-IsShortIfRead (Err ReadFault) text = Unit {0}
+-- where a result says what a whole text is, a program or a fault of it, this holds
+abbrev pub OnText : {A : Type 0} → Result A ReadError → Type 0 → Type 0
+OnText (Ok value) P = P
+OnText (Err (Text why line value)) P = P
+OnText (Err NoMemory) P = Unit {0}
+OnText (Err TooLong) P = Unit {0}
+OnText (Err ReadFault) P = Unit {0}

@@ -1,8 +1,10 @@
 -- Which texts are refused: the fields up to one are as the format says, and that one fails.
 use Rattle.std.specs.Prelude.{◌≡◌, ◌==◌, ◌+◌, ◌-◌, ◌*◌, ◌<◌, ◌≤◌, ◌++◌, ◌⊎◌, ℕ, true, false}
-use Rattle.std.specs.Prelude.{if◌then◌else◌, List, [], ◌∷◌, length, Some, None, Result, Ok, Err}
+use Rattle.std.specs.Prelude.{if◌then◌else◌, List, [], ◌∷◌, length, Option, Some, None, Result, Ok}
+use Rattle.std.specs.Prelude.{Err, IfSome}
 use Rattle.std.specs.List.{AllByRecursion}
 use Rattle.std.specs.Char.{is_ascii_digit}
+use Rattle.ground_program.specs.declared.program.Program.{Program}
 use Rattle.ground_program.specs.Program.{IsName}
 use Rattle.lparse_reader.specs.declared.fault.TextFault.{TextFault}
 use Rattle.lparse_reader.specs.declared.fault.TextFault.TheVariants.{NotANumber, UnknownKind}
@@ -18,7 +20,7 @@ use Rattle.lparse_reader.specs.declared.fault.ReadError.TheVariants.{NoMemory}
 use Rattle.lparse_reader.specs.Tokens.{is_separator, is_token_end}
 use Rattle.lparse_reader.specs.Refusal.{told}
 use Rattle.lparse_reader.specs.Pieces.{Item, number, entry, mark, IsGap, value_of, StandsNumber}
-use Rattle.lparse_reader.specs.Pieces.{StandsMark, StandsEntry, PieceRow}
+use Rattle.lparse_reader.specs.Pieces.{StandsMark, StandsEntry, PieceRow, Reads}
 use Rattle.lparse_reader.specs.Due.{Due, rules, atom, negative_count, entries, sign, models, whole}
 use Rattle.lparse_reader.specs.Due.{after_number, run}
 
@@ -154,12 +156,21 @@ IsTextUnlessNoMemory (Err TooLong) why line value = ⊥
 IsTextUnlessNoMemory (Err ReadFault) why line value = ⊥
 IsTextUnlessNoMemory (Err (Text w l v)) why line value = Text w l v ≡ Text why line value
 
--- the same of a source, which may fail or have too many bytes
-abbrev pub IsRefusedOfSource : List ℕ → ReadError → Type 0
-IsRefusedOfSource bytes NoMemory = Unit {0}
-IsRefusedOfSource bytes TooLong = Unit {0}
-IsRefusedOfSource bytes ReadFault = Unit {0}
-IsRefusedOfSource bytes (Text why line value) = Refuses bytes why line value
+-- a source of these bytes may have this result: they read as the program, they are refused so, or
+-- they are too long
+abbrev pub IsOutcome : List ℕ → Result Program ReadError → Type 0
+IsOutcome bytes (Ok program) = (length bytes ≤ 67108864) × Reads bytes program
+IsOutcome bytes (Err (Text why line value)) =
+    (length bytes ≤ 67108864) × Refuses bytes why line value
+IsOutcome bytes (Err TooLong) = 67108864 < length bytes
+IsOutcome bytes (Err ReadFault) = Unit {0}
+IsOutcome bytes (Err NoMemory) = Unit {0}
+
+-- a source of some bytes may have this result, and where it told its bytes, one of those
+pub record IsOfSomeText (told : Option (List ℕ)) (result : Result Program ReadError) : Type 0 where
+  pub bytes : List ℕ
+  pub same : IfSome told (λ left. bytes ≡ left)
+  pub outcome : IsOutcome bytes result
 
 -- this result is the refusal, unless the source failed or memory ran out
 abbrev pub IsTextUnlessSource : {A : Type 0} → Result A ReadError → TextFault → ℕ → ℕ → Type 0

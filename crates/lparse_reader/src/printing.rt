@@ -9,11 +9,12 @@ ghost use Rattle.lparse_reader.specs.Pieces.{body_weights, negatives};
 ghost use Rattle.lparse_reader.specs.Text.{next_field, next_fields, rule_line, entry_line};
 ghost use Rattle.lparse_reader.specs.Text.{number_line, ended_lines, marked_atoms, text};
 
-use byte_edges::{Sink, WriteFault, write_bytes};
+use byte_edges::{Page, Sink, WriteFault, write_bytes};
 use ground_program::{Kind, Named, Program, Rule, Weighted};
 use number_text::{write_number, write_number_after, write_number_ended};
 
-/// Writes the canonical text of a program.
+/// Writes the canonical text of a program. It takes no memory. A line of up to 4096 bytes goes out
+/// by one write, and of a longer one each field.
 pub fn print_program<K: Sink>(program: &Program, sink: &mut K) -> Result<(), WriteFault>
     requires { IsProgram program.now }
     ensures { Writes K.written K.faults sink.old sink.new (text program.now) result }
@@ -46,9 +47,20 @@ fn print_lines<T: Line, K: Sink>(items: &[T], sink: &mut K) -> Result<(), WriteF
     ensures { Writes K.written K.faults sink.old sink.new (ended_lines T.line items.now) result }
 {
     for item in items {
-        item.print(sink)?;
+        print_line(item, sink)?;
     }
     0u32.print(sink)
+}
+
+// One line: by one write, where it fits a page.
+fn print_line<T: Line, K: Sink>(item: &T, sink: &mut K) -> Result<(), WriteFault>
+    ensures { Writes K.written K.faults sink.old sink.new (T.line item.now) result }
+{
+    let mut page = Page::open();
+    match item.print(&mut page) {
+        Ok(()) => write_bytes(page.written(), sink),
+        Err(_) => item.print(sink),
+    }
 }
 
 impl Line for u32 {

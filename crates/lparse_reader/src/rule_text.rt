@@ -1,5 +1,5 @@
 // Rules.
-ghost use Rattle.std.specs.Prelude.{◌≡◌, [], ◌∷◌, IfOk};
+ghost use Rattle.std.specs.Prelude.{◌≡◌};
 ghost use Rattle.lparse_reader.specs.Fields.{ReadsAs, behind, counted_at, atom_at, part_at};
 ghost use Rattle.lparse_reader.specs.Fields.{weighed_at};
 ghost use Rattle.lparse_reader.specs.Reading.{kind_or_end_at, counts_at, body_at, heads_at};
@@ -8,8 +8,8 @@ ghost use Rattle.lparse_reader.specs.Reading.{rule_at, rule_or_end_at, all_at};
 
 use crate::fault::{Fault, Stop, TextFault};
 use crate::token_text::{fault_here, next_token, read_atom, read_number};
-use ground_program::{AtomLit, Atoms, Body, Kind, Rule, Rules, Weighted};
-use item_list::{List, NoMemory};
+use ground_program::{AtomLit, Body, Heads, Kind, Rule, Rules, Weighted};
+use item_list::List;
 use std::alloc::Global;
 
 /// How many literals a body has.
@@ -95,10 +95,9 @@ fn read_basic_rule(alloc: Global, bytes: &[u8]) -> Result<(Rule, &[u8]), Stop>
     let (head, rest) = read_atom(bytes)?;
     let (counts, rest) = read_counts(rest)?;
     let (body, rest) = read_body(alloc, counts, rest)?;
-    let heads = one_head(alloc, head)?;
     let rule = Rule {
         kind: Kind::Basic,
-        heads,
+        heads: Heads::one(head),
         bound: counts.literals,
         body,
     };
@@ -114,10 +113,9 @@ fn read_constraint_rule(alloc: Global, bytes: &[u8]) -> Result<(Rule, &[u8]), St
     let (counts, after_counts) = read_counts(rest)?;
     let (bound, after_bound) = read_number(after_counts)?;
     let (body, rest) = read_body(alloc, counts, after_bound)?;
-    let heads = one_head(alloc, head)?;
     let rule = Rule {
         kind: Kind::Constraint,
-        heads,
+        heads: Heads::one(head),
         bound,
         body,
     };
@@ -134,10 +132,9 @@ fn read_weight_rule(alloc: Global, bytes: &[u8]) -> Result<(Rule, &[u8]), Stop>
     let (counts, rest) = read_counts(rest)?;
     let (body, rest) = read_body(alloc, counts, rest)?;
     let (body, rest) = read_weights(alloc, body.as_slice(), rest)?;
-    let heads = one_head(alloc, head)?;
     let rule = Rule {
         kind: Kind::Weight,
-        heads,
+        heads: Heads::one(head),
         bound,
         body,
     };
@@ -185,27 +182,18 @@ fn read_counts(bytes: &[u8]) -> Result<(Counts, &[u8]), Stop>
 
 /// The number of heads and then the heads.
 #[tactic(auto, unfolding(crate::specs::Reading::heads_at))]
-fn read_heads(alloc: Global, bytes: &[u8]) -> Result<(Atoms, &[u8]), Stop>
+fn read_heads(alloc: Global, bytes: &[u8]) -> Result<(Heads, &[u8]), Stop>
     ensures { ReadsAs (λ x. (x.0, x.1.now)) result (heads_at bytes.now) }
 {
     let (count, rest) = read_number(bytes)?;
     read_atoms(alloc, count, rest)
 }
 
-/// The list of one head.
-fn one_head(alloc: Global, head: u32) -> Result<Atoms, NoMemory>
-    ensures { IfOk result (λ heads. heads ≡ head ∷ []) }
-{
-    let mut heads = List::open();
-    heads.push(alloc, head)?;
-    Ok(heads)
-}
-
 /// So many atoms.
-fn read_atoms(alloc: Global, count: u32, bytes: &[u8]) -> Result<(Atoms, &[u8]), Stop>
+fn read_atoms(alloc: Global, count: u32, bytes: &[u8]) -> Result<(Heads, &[u8]), Stop>
     ensures { ReadsAs (λ x. (x.0, x.1.now)) result (counted_at atom_at count bytes.now) }
 {
-    let mut atoms = List::open();
+    let mut atoms = Heads::open();
     let mut rest = bytes;
     for _ in 0..count {
         let (atom, after) = read_atom(rest)?;
@@ -220,7 +208,7 @@ fn read_atoms(alloc: Global, count: u32, bytes: &[u8]) -> Result<(Atoms, &[u8]),
 fn read_body(alloc: Global, counts: Counts, bytes: &[u8]) -> Result<(Body, &[u8]), Stop>
     ensures { ReadsAs (λ x. (x.0, x.1.now)) result (body_at counts bytes.now) }
 {
-    let (body, rest) = read_parts(alloc, List::open(), true, counts.negatives, bytes)?;
+    let (body, rest) = read_parts(alloc, Body::open(), true, counts.negatives, bytes)?;
     read_parts(alloc, body, false, counts.positives, rest)
 }
 
@@ -263,7 +251,7 @@ fn read_weights<'a>(
 ) -> Result<(Body, &'a [u8]), Stop>
     ensures { ReadsAs (λ x. (x.0, x.1.now)) result (weighed_at parts.now bytes.now) }
 {
-    let mut body = List::open();
+    let mut body = Body::open();
     let mut rest = bytes;
     for part in parts {
         let (weight, after) = read_number(rest)?;

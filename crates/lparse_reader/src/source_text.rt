@@ -1,16 +1,14 @@
 // Texts from a source.
-ghost use Rattle.std.specs.Prelude.{◌≡◌, ◌≤◌, ◌<◌, ◌+◌, ℕ, [], Some, length, drop, IfOk, IfErr};
-ghost use Rattle.std.specs.Prelude.{IfSome, OnOk, IsErrOf};
+ghost use Rattle.std.specs.Prelude.{◌≡◌, ◌≤◌, ◌<◌, ◌+◌, ℕ, [], Some, length, drop, IfOk, IfSome};
+ghost use Rattle.std.specs.Prelude.{IsErrOf};
 ghost use Rattle.ground_program.specs.declared.program.Program.{Program};
 ghost use Rattle.ground_program.specs.Program.{IsProgram};
 ghost use Rattle.byte_edges.specs.Faults.{Rose};
 ghost use Rattle.byte_edges.specs.Edges.{TookUpTo};
 ghost use Rattle.lparse_reader.specs.declared.fault.TextFault.{TextFault};
 ghost use Rattle.lparse_reader.specs.Pieces.{Reads};
-ghost use Rattle.lparse_reader.specs.Refuses.{Refuses, IsRefusedOfSource, IsTextUnlessSource};
-ghost use Rattle.lparse_reader.specs.Reading.{program_at};
-ghost use Rattle.lparse_reader.specs.Refusal.{IsAnswerOfSource, IsProgramUnlessSource};
-ghost use Rattle.lparse_reader.specs.Refusal.{IsShortIfRead};
+ghost use Rattle.lparse_reader.specs.Refuses.{Refuses, IsTextUnlessSource, IsOfSomeText};
+ghost use Rattle.lparse_reader.specs.Refusal.{IsProgramUnlessSource, OnText};
 
 use crate::fault::ReadError;
 use crate::whole_text::parse;
@@ -24,9 +22,13 @@ const LONGEST: u64 = 67_108_864;
 /// The program of all bytes that a source has left, or the first thing that is wrong with them.
 pub fn read_program<S: Source>(alloc: Global, source: &mut S) -> Result<Program, ReadError>
     ensures valid { IfOk result IsProgram }
-    ensures read { IfOk result
-        (λ program. IfSome (S.left source.old) (λ bytes. Reads bytes program)) }
-    ensures end { OnOk result (IfSome (S.left source.old) (λ _. S.left source.new ≡ Some [])) }
+
+    // What is told is true of some text, and where the source told what it had left, of that: it
+    // reads as the program, it is refused so, or it is too long.
+    ensures outcome { IsOfSomeText (S.left source.old) result }
+
+    // A program and a fault of the text come once all bytes were taken.
+    ensures end { OnText result (IfSome (S.left source.old) (λ _. S.left source.new ≡ Some [])) }
 
     // What stands in the text is read, unless the source fails or memory runs out.
     ensures all_read { IfSome (S.left source.old)
@@ -34,25 +36,19 @@ pub fn read_program<S: Source>(alloc: Global, source: &mut S) -> Result<Program,
         → Reads bytes program → IsProgramUnlessSource result program) }
 
     // A text that is refused is told so, unless the source fails or memory runs out.
-    ensures refused { IfErr result
-        (λ error. IfSome (S.left source.old) (λ bytes. IsRefusedOfSource bytes error)) }
     ensures all_refused { IfSome (S.left source.old)
         (λ bytes. (why : TextFault) (line value : ℕ) → length bytes ≤ 67108864
         → Refuses bytes why line value → IsTextUnlessSource result why line value) }
 
-    // Both by reading from left to right.
-    ensures exact { IfSome (S.left source.old)
-        (λ bytes. IsAnswerOfSource bytes result (program_at bytes)) }
-
+    // A fault of the source comes before more than 67,108,864 bytes were taken.
     ensures read_fault { IsErrOf result ReadError.ReadFault
         → Rose (S.faults source.old) (S.faults source.new) }
+    ensures fault_within { IsErrOf result ReadError.ReadFault
+        → IfSome (S.left source.old) (TookUpTo 67108864 (S.left source.new)) }
 
     // 67,108,864 bytes were taken and one more.
     ensures too_long { IsErrOf result ReadError.TooLong → IfSome (S.left source.old)
         (λ left. (67108864 < length left) × (S.left source.new ≡ Some (drop 67108865 left))) }
-
-    // So what gives a program or has a fault isn't longer.
-    ensures short { IfSome (S.left source.old) (IsShortIfRead result) }
 
     // What was taken stays taken, whatever the answer.
     ensures taken { IfSome (S.left source.old) (TookUpTo 67108865 (S.left source.new)) }

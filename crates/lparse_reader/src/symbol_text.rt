@@ -1,5 +1,5 @@
 // The symbol table.
-ghost use Rattle.std.specs.Prelude.{◌≡◌, [], length, IfOk};
+ghost use Rattle.std.specs.Prelude.{◌≡◌, [], length};
 ghost use Rattle.lparse_reader.specs.Tokens.{line_of, after_line, trimmed};
 ghost use Rattle.lparse_reader.specs.Fields.{ReadsAs, name_at, entry_or_end_at};
 ghost use Rattle.lparse_reader.specs.Reading.{all_at};
@@ -7,7 +7,7 @@ ghost use Rattle.lparse_reader.specs.Reading.{all_at};
 use crate::fault::{Fault, Stop, TextFault};
 use crate::token_text::{fault_here, next_token, read_number};
 use ground_program::{Name, Named, Names};
-use item_list::{List, NoMemory};
+use item_list::List;
 use std::alloc::Global;
 
 /// All entries.
@@ -56,7 +56,7 @@ fn name_of<'a>(
             if text.is_empty() {
                 return Err(fault_here(TextFault::NameMissing, token, atom as u64));
             }
-            let name = copied_name(alloc, text)?;
+            let name = Name::from_slice(alloc, text)?;
             Ok((Some(Named { atom, name }), rest))
         }
         _ => Err(fault_here(TextFault::NameMissing, token, atom as u64)),
@@ -88,15 +88,4 @@ fn without_returns(line: &[u8]) -> &[u8]
         text = front;
     }
     text
-}
-
-/// A name of these bytes.
-fn copied_name(alloc: Global, text: &[u8]) -> Result<Name, NoMemory>
-    ensures { IfOk result (λ name. name ≡ text.now) }
-{
-    let mut name = List::open();
-    for byte in text {
-        name.push(alloc, *byte)?;
-    }
-    Ok(name)
 }

@@ -31,8 +31,6 @@ pub fn parse(alloc: Global, bytes: &[u8]) -> Result<Program, ReadError>
     ensures refused { IfErr result (IsRefused bytes.now) }
     ensures all_refused { (why : TextFault) (line value : ℕ) → Refuses bytes.now why line value
         → IsTextUnlessNoMemory result why line value }
-    // Both by reading from left to right.
-    ensures exact { IsReadAnswer bytes.now result (program_at bytes.now) }
 {
     parse_whole(alloc, bytes)
 }

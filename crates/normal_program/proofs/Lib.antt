@@ -4,3 +4,4 @@ pub mod RankLemmas
 pub mod NormalLemmas
 pub mod UniqueLemmas
 pub mod RangeLemmas
+pub mod lemmas

@@ -1,5 +1,6 @@
 -- Sums over lists.
-use Rattle.std.proofs.Common.{◌≡◌, ◌≢◌, ◌<◌, ◌+◌, ℕ, List, [], ◌∷◌, zero, suc, length, get_or, All}
+use Rattle.std.proofs.Common.{◌≡◌, ◌≢◌, ◌≤◌, ◌<◌, ◌+◌, ℕ, List, [], ◌∷◌, zero, suc, length, get_or}
+use Rattle.std.proofs.Common.{All}
 use Rattle.std.proofs.Common.{sum_by, refl, sym, ap, ◌∙◌, arith}
 use Rattle.std.proofs.lemmas.List.Elements.{All-head, All-tail}
 use Rattle.std.proofs.lemmas.List.Sums.{sum_by-cons, sum_by-le}
@@ -13,6 +14,16 @@ module _ {X : Type 0} where
       let head : f x ≡ g x = All-head (λ y. f y ≡ g y) x xs same in
       let rest : sum_by f xs ≡ sum_by g xs =
       sum_by-agree f g xs (All-tail (λ y. f y ≡ g y) x xs same) in
+      omega (arith, sum_by-cons f x xs, sum_by-cons g x xs, head, rest)
+
+  -- a function that is nowhere greater on a list has no greater sum over it
+  pub sum_by-le_each : (f g : X → ℕ) (xs : List X) → All (λ x. f x ≤ g x) xs
+      → sum_by f xs ≤ sum_by g xs
+  sum_by-le_each f g [] less = omega arith
+  sum_by-le_each f g (x ∷ xs) less =
+      let head : f x ≤ g x = All-head (λ y. f y ≤ g y) x xs less in
+      let rest : sum_by f xs ≤ sum_by g xs =
+      sum_by-le_each f g xs (All-tail (λ y. f y ≤ g y) x xs less) in
       omega (arith, sum_by-cons f x xs, sum_by-cons g x xs, head, rest)
 
   -- a sum of sums

@@ -1,6 +1,6 @@
 -- The clauses that hold in every answer set, and what it means that a clause does.
 use Rattle.std.specs.Prelude.{zero, suc, ◌+◌, ◌*◌, nat_eq, ℕ, Bool, true, false, not, if◌then◌else◌}
-use Rattle.std.specs.Prelude.{List, [], ◌∷◌, ◌++◌, map, filter, flat_map, IsTrue}
+use Rattle.std.specs.Prelude.{List, [], ◌∷◌, ◌++◌, map, filter, flat_map, IsTrue, All}
 use Rattle.std.specs.List.{AllZip, list_any, enumerate_from}
 use Rattle.ground_program.specs.declared.program.AtomLit.{AtomLit}
 use Rattle.ground_program.specs.declared.program.Kind.{Kind}
@@ -132,3 +132,7 @@ IsEntailed normal disjunctions clause =
     (set chosen : List Bool) → IsAnswerSetN normal set
     → AreChosen (extension normal set set) disjunctions chosen →
     HoldsIn (extension normal set set ++ chosen) clause
+
+-- each base clause holds in every answer set
+abbrev pub AreEntailed : Normal → Type 0
+AreEntailed normal = All (IsEntailed normal []) (base_clauses normal)

@@ -6,3 +6,4 @@ pub mod Spent
 pub mod Limit
 pub mod Range
 pub mod Models
+pub mod Laws

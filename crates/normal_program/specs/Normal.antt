@@ -59,6 +59,10 @@ body_var normal number = normal.atoms + 1 + number
 abbrev pub greatest_body_var : Normal → ℕ
 greatest_body_var normal = normal.atoms + length normal.bodies
 
+-- the first selector; the selectors are the variables behind the bodies
+abbrev pub first_selector : Normal → ℕ
+first_selector normal = greatest_body_var normal + 1
+
 -- the number of variables: those of the atoms, the bodies and the selectors
 abbrev pub variables : Normal → ℕ
 variables normal = normal.atoms + length normal.bodies + length normal.names + 1

@@ -1,7 +1,8 @@
 -- What it means that a test is spent: its units are worth counting, and follow from what they are
 -- said to follow from.
-use Rattle.std.specs.Prelude.{◌≡◌, ◌⊎◌, ◌&&◌, not, ℕ, Bool, if◌then◌else◌, List, [], ◌∷◌, ◌++◌}
-use Rattle.std.specs.Prelude.{length, map, filter, flat_map, All, Any, IfSome, IfNone, MatchOption}
+use Rattle.std.specs.Prelude.{◌≡◌, ◌+◌, ◌⊎◌, ◌&&◌, not, ℕ, Bool, if◌then◌else◌, List, [], ◌∷◌}
+use Rattle.std.specs.Prelude.{◌++◌, length, map, filter, flat_map, All, Any, None, IfSome, IfNone}
+use Rattle.std.specs.Prelude.{MatchOption}
 use Rattle.std.specs.List.{list_any}
 use Rattle.ground_program.specs.declared.program.Kind.TheVariants.{Disjunctive}
 use Rattle.ground_program.specs.Meaning.{has, IsSetOver}
@@ -15,8 +16,8 @@ use Rattle.normal_program.specs.declared.normal.NormalRule.{NormalRule}
 use Rattle.normal_program.specs.declared.normal.Normal.{Normal}
 use Rattle.normal_program.specs.declared.spent.SpentTest.{SpentTest}
 use Rattle.normal_program.specs.Body.{is_conjunctive}
-use Rattle.normal_program.specs.Normal.{body_var, greatest_body_var, extension, KeepsAllN}
-use Rattle.normal_program.specs.Normal.{MeetsComputeN}
+use Rattle.normal_program.specs.Normal.{body_var, greatest_body_var, first_selector, extension}
+use Rattle.normal_program.specs.Normal.{KeepsAllN, MeetsComputeN}
 use Rattle.normal_program.specs.Clauses.{positive, negative, alone, all_clauses, literals_of}
 use Rattle.normal_program.specs.Clauses.{numbered_bodies, is_choice, rule_clauses, atoms_of_normal}
 use Rattle.normal_program.specs.Clauses.{cleaned, base_clauses, IsEntailed}
@@ -88,6 +89,30 @@ pub record IsSpentTest (normal : Normal) (test : SpentTest) : Type 0 where
   pub all : length test.units ≡ test.budget
   pub over : All (All (IsOver (greatest_body_var normal))) test.units
   pub worth : MatchOption test.inside (AreUnitsOfTest normal test) (AreUnitsWithin normal test)
+
+-- where a selector is on, its disjunction is true; the disjunctions stand under the selectors from
+-- `first` on
+abbrev pub selector_clauses_from : ℕ → List (List Lit) → List (List Lit)
+selector_clauses_from first [] = []
+selector_clauses_from first (any ∷ rest) =
+    (negative first ∷ any) ∷ selector_clauses_from (first + 1) rest
+
+-- the clauses of the selectors in use, whose disjunctions these are
+abbrev pub selector_clauses : Normal → List (List Lit) → List (List Lit)
+selector_clauses normal disjunctions = selector_clauses_from (first_selector normal) disjunctions
+
+-- a test with a disjunction that itself used up its budget. Its units may have selectors, so it is
+-- no spent test: they are entailed with the disjunctions that the selectors stand for. Only
+-- selectors in use count, and the clauses of these are no units: else a search could pad its units
+-- with what holds by the choice of selectors alone
+pub record IsWideSpentTest (normal : Normal) (disjunctions : List (List Lit)) (test : SpentTest) :
+    Type 0 where
+  pub no_literal : test.literal ≡ None
+  pub no_set : test.inside ≡ None
+  pub all : length test.units ≡ test.budget
+  pub over : All (All (IsOver (greatest_body_var normal + length disjunctions))) test.units
+  pub units : AreUnits (base_clauses normal ++ selector_clauses normal disjunctions) test.units
+  pub entailed : All (IsEntailed normal disjunctions) test.units
 
 -- each unit of the test itself follows by unit propagation from base clauses, local clauses and the
 -- units before it

@@ -1,6 +1,6 @@
 // The normal form. Atom a has variable a, body j, from 0, has variable atoms + 1 + j, and the
 // selectors are the variables after the bodies, one more than there are candidates.
-use ground_program::{AtomLit, Atoms, Kind, Names};
+use ground_program::{AtomLit, Atoms, Heads, Kind, Names};
 use item_list::{Copied, List, NoMemory};
 use std::alloc::Global;
 
@@ -38,7 +38,7 @@ pub struct NormalRule {
     /// What the heads and the body mean.
     pub kind: Kind,
     /// The head atoms.
-    pub heads: Atoms,
+    pub heads: Heads,
     /// The number of the body, from 0.
     pub body: u32,
 }

@@ -1,8 +1,9 @@
 // Small programs whose answer sets are known.
 use crate::is_answer_set;
 use ground_program::{
-    AtomLit, Atoms, Body, Kind, Names, NoMemory, Program, Rule, Rules, Set, Weighted,
+    AtomLit, Atoms, Body, Heads, Kind, Names, Program, Rule, Rules, Set, Weighted,
 };
+use item_list::NoMemory;
 use std::alloc::Global;
 use std::test::Fail;
 
@@ -99,7 +100,7 @@ fn the_known_answer_sets_are_told_from_others(rt: HostRuntime) -> Result<(), Fai
 fn program_of(alloc: Global, case: &Case) -> Result<Program, NoMemory> {
     let mut rules = Rules::open();
     for (kind, heads, bound, body) in case.rules {
-        let heads = atoms_of(alloc, heads)?;
+        let heads = Heads::from_slice(alloc, heads)?;
         let body = body_of(alloc, body)?;
         rules.push(
             alloc,
@@ -111,8 +112,8 @@ fn program_of(alloc: Global, case: &Case) -> Result<Program, NoMemory> {
             },
         )?;
     }
-    let must = atoms_of(alloc, case.must)?;
-    let must_not = atoms_of(alloc, &[1])?;
+    let must = Atoms::from_slice(alloc, case.must)?;
+    let must_not = Atoms::from_slice(alloc, &[1])?;
     Ok(Program {
         atoms: 4,
         rules,
@@ -121,14 +122,6 @@ fn program_of(alloc: Global, case: &Case) -> Result<Program, NoMemory> {
         must_not,
         models: 1,
     })
-}
-
-fn atoms_of(alloc: Global, numbers: &[u32]) -> Result<Atoms, NoMemory> {
-    let mut atoms = Atoms::open();
-    for number in numbers {
-        atoms.push(alloc, *number)?;
-    }
-    Ok(atoms)
 }
 
 fn body_of(alloc: Global, parts: &[(u32, bool, u32)]) -> Result<Body, NoMemory> {

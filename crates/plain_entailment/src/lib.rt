@@ -4,8 +4,6 @@
 
 mod choices;
 mod entailment;
-#[cfg(test)]
-mod tests;
 mod truth;
 
 pub use entailment::is_entailed;

@@ -3,8 +3,6 @@
 #![tactic(auto)]
 
 mod propagation;
-#[cfg(test)]
-mod tests;
 mod unit_lists;
 
 pub use propagation::{closure, refutes};

@@ -98,7 +98,7 @@ other_is_negation one two same differ =
     ]
 
 -- and the negation of a false literal is true
-no_negated : (steps : List Step) (lit : Lit) → value_of steps lit ≡ No
+pub no_negated : (steps : List Step) (lit : Lit) → value_of steps lit ≡ No
     → value_of steps (negation lit) ≡ Yes
 no_negated steps lit is =
     ap (λ v. value_by (step_of steps v) (negation lit)) (variable-negation lit)

@@ -6,3 +6,5 @@ pub mod PassLemmas
 pub mod ClosureLemmas
 pub mod TotalLemmas
 pub mod AttachLemmas
+pub mod FalseLemmas
+pub mod RunLemmas

@@ -13,7 +13,8 @@ use Rattle.clause_store.specs.declared.step.Step.{Step}
 use Rattle.clause_store.proofs.LiteralLemmas.{any_from}
 use Rattle.clause_store.specs.Clause.{IsOver}
 use Rattle.clause_store.specs.Trail.{Assigned}
-use Rattle.clause_store.specs.Standing.{Followed, AreOn}
+use Rattle.clause_store.specs.Standing.{AreFollowed}
+use Rattle.clause_store.proofs.lemmas.Trails.FollowedLemmas.{followed_with_more}
 use Rattle.clause_store.proofs.TrailLemmas.{slice_get-append, trail_stays}
 use Rattle.propagator.specs.Watched.{Attached, Watched, AreAttached, IsAttached, IsReady}
 use Rattle.propagator.specs.Fixpoint.{IsFixpoint, IsQuietOn}
@@ -72,14 +73,6 @@ attached_again attached clauses entry is there =
           (is.complete k within);
     }
 
--- what is followed stays on the trail when assignments come last
-followed_stay : (steps added : List Step) (followed : List Followed) → AreOn steps followed
-    → AreOn (steps ++ added) followed
-followed_stay steps added followed on k d within =
-    any-append_left
-    (λ step. (step.lit ≡ (get_or followed k d).lit)
-    × (step.level ≡ (get_or followed k d).level)) steps added (on k d within)
-
 -- where each attached clause is quiet, each clause of the store is
 pub fixpoint_from_attached : (steps : List Step) (attached : List Attached)
     (clauses : List (List Lit)) → AreAttached attached clauses
@@ -105,8 +98,8 @@ ready_with_more clauses old new watches added ready is of =
           subst (λ vars. All (All (IsOver vars)) clauses) (sym (ap (λ trail. trail.vars) is))
           ready.over;
       followed =
-          subst (λ steps. AreOn steps watches.followed) (sym (ap (λ trail. trail.steps) is))
-          (followed_stay old.steps added watches.followed ready.followed);
+          subst (λ steps. AreFollowed steps watches.followed) (sym (ap (λ trail. trail.steps) is))
+          (followed_with_more old.steps added watches.followed ready.followed);
       of_store = of;
     }
 
@@ -122,7 +115,7 @@ ready_with_last clauses clause trail old new at ready over last is =
           (attached_push old.clauses clauses at clause ready.attached last);
       same_vars = ap (λ watches. watches.vars) new_is ∙ ready.same_vars;
       over = All-push (All (IsOver trail.vars)) clauses clause ready.over over;
-      followed = subst (λ watches. AreOn trail.steps watches.followed) (sym new_is) ready.followed;
+      followed = subst (λ watches. AreFollowed trail.steps watches.followed) (sym new_is) ready.followed;
       of_store = trail_stays clauses clause trail.steps ready.of_store;
     }
   where
@@ -158,7 +151,7 @@ ready_with_again clauses trail old new at ready is =
           is.named);
       same_vars = ap (λ watches. watches.vars) is.last ∙ ready.same_vars;
       over = ready.over;
-      followed = subst (λ watches. AreOn trail.steps watches.followed) (sym is.last) ready.followed;
+      followed = subst (λ watches. AreFollowed trail.steps watches.followed) (sym is.last) ready.followed;
       of_store = ready.of_store;
     }
 

@@ -1,14 +1,15 @@
 -- Laws of the words of this crate. Each is a clause of a function in src/laws.rt.
-use Rattle.std.specs.Prelude.{◌≡◌, ◌≢◌, ◌<◌, ◌+◌, ◌++◌, List, [], ◌∷◌, length, take, All, slice_get}
-use Rattle.std.specs.Prelude.{Some}
+use Rattle.std.specs.Prelude.{◌≡◌, ◌≢◌, ◌<◌, ◌≤◌, ◌+◌, ◌++◌, List, [], ◌∷◌, length, take, All}
+use Rattle.std.specs.Prelude.{slice_get, Some}
 use Rattle.clause_store.specs.declared.literal.Lit.{Lit}
 use Rattle.clause_store.specs.declared.literal.ClauseRef.{ClauseRef}
-use Rattle.clause_store.specs.declared.literal.Value.TheVariants.{Yes}
+use Rattle.clause_store.specs.declared.literal.Value.TheVariants.{Yes, Unset}
 use Rattle.clause_store.specs.declared.step.Step.{Step}
 use Rattle.clause_store.specs.Clause.{IsOver, AreOver, Meets}
 use Rattle.clause_store.specs.Entailment.{Absorbs, InClosure, Refutes}
 use Rattle.clause_store.specs.Trail.{Assigned, IsTrail, IsTrailOf, IsTotal, value_of, values_of}
-use Rattle.clause_store.specs.Standing.{AreOn, IsFalse, ForcesOn}
+use Rattle.clause_store.specs.Laws.{IsStill}
+use Rattle.clause_store.specs.Standing.{AreFollowed, IsFalse, IsFalseOn, ForcesOn}
 use Rattle.propagator.specs.Watched.{Watched, IsAttached, IsReady}
 use Rattle.propagator.specs.Fixpoint.{Extends, IsFixpoint}
 
@@ -51,7 +52,7 @@ ReadyAfterRewind =
     → IsReady clauses old watches
     → new.vars ≡ old.vars → IsTrailOf new.steps clauses
     → rewound ≡ record watches { followed = rewound.followed }
-    → AreOn new.steps rewound.followed → IsReady clauses new rewound
+    → AreFollowed new.steps rewound.followed → IsReady clauses new rewound
 
 -- a run of propagation after another is one
 abbrev pub ExtendingGoesOn : Type 0
@@ -102,3 +103,16 @@ abbrev pub TotalFixpointMeets : Type 0
 TotalFixpointMeets =
     (trail : Assigned) (clauses : List (List Lit)) → IsTotal trail → AreOver trail.vars clauses
     → IsFixpoint clauses trail.steps → Meets (values_of trail) clauses
+
+-- nor is a clause that has a literal and is false there
+abbrev pub FixpointAbsorbsNoFalse : Type 0
+FixpointAbsorbsNoFalse =
+    (trail : Assigned) (clauses : List (List Lit)) (clause : List Lit) → IsTrail trail
+    → IsFixpoint clauses trail.steps
+    → 1 ≤ length clause → IsFalseOn trail.steps clause → ¬ Absorbs clauses clause
+
+-- propagation leaves a literal that has a value this value, and its variable the level
+abbrev pub PropagationKeepsValues : Type 0
+PropagationKeepsValues =
+    (old new : Assigned) (lit : Lit) → Extends old new → value_of old.steps lit ≢ Unset
+    → IsStill old.steps new.steps lit

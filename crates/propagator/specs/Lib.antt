@@ -2,3 +2,4 @@ pub mod Watched
 pub mod Fixpoint
 pub mod Standings
 pub mod Laws
+pub mod ProgressLaws

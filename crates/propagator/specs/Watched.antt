@@ -6,7 +6,7 @@ use Rattle.clause_store.specs.declared.literal.ClauseRef.{ClauseRef}
 use Rattle.clause_store.specs.declared.step.Step.{Step}
 use Rattle.clause_store.specs.Clause.{AreOver}
 use Rattle.clause_store.specs.Trail.{Assigned, IsTrailOf}
-use Rattle.clause_store.specs.Standing.{Followed, AreOn}
+use Rattle.clause_store.specs.Standing.{Followed, AreFollowed}
 use Rattle.propagator.specs.Fixpoint.{IsQuietOn}
 
 -- a clause of a store by its number, with the literals that it had
@@ -41,11 +41,11 @@ abbrev pub AreQuietOn : List Step → List Attached → Type 0
 AreQuietOn steps attached = All (λ it. IsQuietOn steps it.lits) attached
 
 -- what propagation asks of a store, a trail and watches, and leaves: the watches are just of the
--- store's clauses and over the trail's variables, follow only assignments of the trail, and the
--- trail is of the store
+-- store's clauses and over the trail's variables, follow a front of the trail, and the trail is of the
+-- store
 pub record IsReady (clauses : List (List Lit)) (trail : Assigned) (watches : Watched) : Type 0 where
   pub attached : AreAttached watches.clauses clauses
   pub same_vars : watches.vars ≡ trail.vars
   pub over : AreOver trail.vars clauses
-  pub followed : AreOn trail.steps watches.followed
+  pub followed : AreFollowed trail.steps watches.followed
   pub of_store : IsTrailOf trail.steps clauses

@@ -5,6 +5,8 @@ ghost use Rattle.propagator.specs.Laws.{ReadyWithNext, ReadyAfterRewind};
 ghost use Rattle.propagator.specs.Laws.{ExtendingGoesOn, ReasonsHold};
 ghost use Rattle.propagator.specs.Laws.{FixpointHasClosure, FixpointRefutesNone};
 ghost use Rattle.propagator.specs.Laws.{FixpointAbsorbsNoUnit, TotalFixpointMeets};
+ghost use Rattle.propagator.specs.Laws.{FixpointAbsorbsNoFalse, PropagationKeepsValues};
+ghost use Rattle.propagator.specs.ProgressLaws.{ProgressByPropagation, ProgressByGoingBack};
 
 /// A store, a trail and watches stay ready for propagation when assignments come last.
 pub fn ready_with_more()
@@ -59,4 +61,25 @@ pub fn fixpoint_absorbs_no_unit()
 /// The assignment of a total trail at a fixpoint meets the clauses.
 pub fn total_fixpoint_meets()
     ensures { TotalFixpointMeets }
+{}
+
+/// A clause that has a literal and is false at a fixpoint of other clauses isn't absorbed by them.
+pub fn fixpoint_absorbs_no_false()
+    ensures { FixpointAbsorbsNoFalse }
+{}
+
+/// A literal with a value keeps it under propagation, and its variable keeps its level.
+pub fn propagation_keeps_values()
+    ensures { PropagationKeepsValues }
+{}
+
+/// A run of propagation that assigns something or finds a conflict makes progress.
+pub fn progress_by_propagation()
+    ensures { ProgressByPropagation }
+{}
+
+/// After a conflict, such a run on the trail that went back to a lower level makes progress, as
+/// does a conflict that is there at once.
+pub fn progress_by_going_back()
+    ensures { ProgressByGoingBack }
 {}

@@ -11,6 +11,3 @@ mod watches;
 
 pub use propagation::propagate;
 pub use watches::Watches;
-
-#[cfg(test)]
-mod tests;

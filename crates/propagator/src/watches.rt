@@ -2,7 +2,7 @@
 // to be followed between two calls.
 ghost use Rattle.std.specs.Prelude.{◌≡◌, ◌<◌, ◌^◌, [], length, IfOk, OnErr};
 ghost use Rattle.clause_store.specs.Clause.{AreOver};
-ghost use Rattle.clause_store.specs.Standing.{AreOn};
+ghost use Rattle.clause_store.specs.Standing.{AreFollowed, HasGoneBack};
 ghost use Rattle.propagator.specs.Watched.{IsAttached};
 
 use crate::entry::Entry;
@@ -58,11 +58,13 @@ impl Watches {
         self.clauses.push(alloc, Entry::of(store, at))
     }
 
-    /// Follows only assignments of the trail. It is called after each going back of the trail.
+    /// Follows only assignments of the trail. It is called after each going back of the trail: what is
+    /// followed was a front of an earlier trail, and the trail is what that has up to a level.
     pub fn rewind(&mut self, trail: &Trail)
-        requires { self.old.vars ≡ trail.now.vars }
+        requires same_vars { self.old.vars ≡ trail.now.vars }
+        requires gone_back { HasGoneBack trail.now self.old.followed }
         ensures rest { self.new ≡ record self.old { followed = self.new.followed } }
-        ensures followed { AreOn trail.now.steps self.new.followed }
+        ensures followed { AreFollowed trail.now.steps self.new.followed }
     {
         prove_eq!(self.vars, trail.vars());
     }

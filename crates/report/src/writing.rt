@@ -1,17 +1,34 @@
 // Writing lines to a sink. Each call writes its text, or a prefix of it where the sink fails.
-ghost use Rattle.std.specs.Prelude.{◌≡◌, ◌++◌, [], ◌∷◌, List, codes, decimal};
+ghost use Rattle.std.specs.Prelude.{◌≡◌, ◌≤◌, ◌<◌, ◌+◌, ◌^◌, ◌++◌, [], ◌∷◌, List, length, take};
+ghost use Rattle.std.specs.Prelude.{drop, codes, decimal};
 ghost use Rattle.byte_edges.specs.Edges.{Writes};
 ghost use Rattle.ground_program.specs.Bounds.{IsCandidate};
 ghost use Rattle.report.specs.Text.{NamesCandidate, text_of_line, words_of_line, text_of_why};
 ghost use Rattle.report.specs.Text.{name_of, field, fields, positions_from};
 
 use crate::{Line, Why};
-use byte_edges::{Sink, WriteFault, write_bytes};
+use byte_edges::{Page, Sink, WriteFault, write_bytes};
 use ground_program::Names;
 use number_text::write_number_after;
 
-/// Writes the line with its line feed. It takes no memory.
+// How many values of a set are written at a time. With a blank, a position below ten million has
+// eight bytes, so that many fit a page.
+const BLOCK: usize = 512;
+
+/// Writes the line with its line feed. It takes no memory. A line of up to 4096 bytes goes out by
+/// one write. Of a longer one the set goes out in blocks, and each other field by itself.
 pub fn write_line<K: Sink>(line: &Line, names: &Names, sink: &mut K) -> Result<(), WriteFault>
+    requires { NamesCandidate names.now line.now }
+    ensures { Writes K.written K.faults sink.old sink.new (text_of_line names.now line.now) result }
+{
+    let mut page = Page::open();
+    match write_whole(line, names, &mut page) {
+        Ok(()) => write_bytes(page.written(), sink),
+        Err(_) => write_whole(line, names, sink),
+    }
+}
+
+fn write_whole<K: Sink>(line: &Line, names: &Names, sink: &mut K) -> Result<(), WriteFault>
     requires { NamesCandidate names.now line.now }
     ensures { Writes K.written K.faults sink.old sink.new (text_of_line names.now line.now) result }
 {
@@ -52,14 +69,50 @@ fn write_answer<K: Sink>(number: u32, set: &[bool], sink: &mut K) -> Result<(), 
     write_positions(set, sink)
 }
 
-// Writes the positions of the true values.
+// Writes the positions of the true values, block by block.
 fn write_positions<K: Sink>(set: &[bool], sink: &mut K) -> Result<(), WriteFault>
     ensures { Writes K.written K.faults sink.old sink.new
         (fields (positions_from 0 set.now)) result }
 {
-    for (position, holds) in set.iter().enumerate() {
+    let mut at = 0;
+    while at < set.len() {
+        let count = BLOCK.min(set.len() - at);
+        write_block(at, block_of(set, at, count), sink)?;
+        at += count;
+    }
+    Ok(())
+}
+
+// So many values from `at` on.
+fn block_of(set: &[bool], at: usize, count: usize) -> &[bool]
+    requires { at + count ≤ length set.now }
+    ensures { result.now ≡ take count (drop at set.now) }
+{
+    &set[at..at + count]
+}
+
+// Writes the positions of the true values of a block whose first value has position `from`: by one
+// write, where they fit a page.
+fn write_block<K: Sink>(from: usize, block: &[bool], sink: &mut K) -> Result<(), WriteFault>
+    requires { from + length block.now < 2 ^ 64 }
+    ensures { Writes K.written K.faults sink.old sink.new
+        (fields (positions_from from block.now)) result }
+{
+    let mut page = Page::open();
+    match write_each(from, block, &mut page) {
+        Ok(()) => write_bytes(page.written(), sink),
+        Err(_) => write_each(from, block, sink),
+    }
+}
+
+fn write_each<K: Sink>(from: usize, block: &[bool], sink: &mut K) -> Result<(), WriteFault>
+    requires { from + length block.now < 2 ^ 64 }
+    ensures { Writes K.written K.faults sink.old sink.new
+        (fields (positions_from from block.now)) result }
+{
+    for (at, holds) in block.iter().enumerate() {
         if *holds {
-            write_number_after(b' ', position as u64, sink)?;
+            write_number_after(b' ', (from + at) as u64, sink)?;
         }
     }
     Ok(())

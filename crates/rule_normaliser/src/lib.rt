@@ -12,6 +12,3 @@ pub use normal_program::{
     Bodies, BodyOf, MOST_VARIABLES, Normal, NormalRule, NormalRules, Part, Parts,
 };
 pub use normalising::normalise;
-
-#[cfg(test)]
-mod tests;

@@ -3,10 +3,9 @@ ghost use Rattle.std.specs.Prelude.{◌≡◌, [], IfOk, IfSome};
 ghost use Rattle.ground_program.specs.Program.{IsProgram};
 ghost use Rattle.clause_store.specs.Clause.{AreOver};
 ghost use Rattle.normal_program.specs.Limit.{IsNormal};
-ghost use Rattle.normal_program.specs.Normal.{variables};
 ghost use Rattle.propagator.specs.Watched.{IsReady};
 
-use clause_store::{ClauseRef, Lit, NoMemory, Store, Trail, Value};
+use clause_store::{Clause, ClauseRef, Lit, NoMemory, Store, Trail, Value};
 use completion::complete;
 use ground_program::Program;
 use lparse_reader::parse;
@@ -42,6 +41,15 @@ pub fn normal_of(alloc: Global, text: &[u8]) -> Option<Normal>
     normalise(alloc, &program).ok()
 }
 
+/// The clause of these literals, by their codes.
+pub fn clause_of(alloc: Global, codes: &[u32]) -> Result<Clause, NoMemory> {
+    let mut clause = Clause::open();
+    for code in codes {
+        clause.push(alloc, Lit(*code))?;
+    }
+    Ok(clause)
+}
+
 /// The completed scene of a normal form, with nothing assigned.
 pub fn scene_of(alloc: Global, normal: &Normal) -> Result<Scene, NoMemory>
     requires { IsNormal normal.now }
@@ -49,21 +57,13 @@ pub fn scene_of(alloc: Global, normal: &Normal) -> Result<Scene, NoMemory>
 {
     let mut store = Store::open();
     complete(alloc, normal, &mut store)?;
-    let trail = Trail::open(alloc, variable_count(normal))?;
+    let trail = Trail::open(alloc, normal.variables())?;
     let watches = attach_all(alloc, &store, &trail)?;
     Ok(Scene {
         store,
         trail,
         watches,
     })
-}
-
-/// The number of variables of a normal form.
-fn variable_count(normal: &Normal) -> u32
-    requires { IsNormal normal.now }
-    ensures { result ≡ variables normal.now }
-{
-    normal.atoms + normal.bodies.len() as u32 + normal.names.len() as u32 + 1
 }
 
 /// Attaches all clauses of a store, over a trail with nothing assigned.

@@ -1,7 +1,6 @@
-use crate::scene::{normal_of, program_of, scene_of};
+use crate::scene::{clause_of, normal_of, program_of, scene_of};
 use clause_store::{Clause, ClauseRef, Lit, NoMemory, Store, Units, Value};
 use completion::complete;
-use normal_program::Normal;
 use plain_entailment::is_entailed;
 use rule_normaliser::{NormalError, normalise};
 use std::alloc::Global;
@@ -99,42 +98,10 @@ fn is_told_apart(alloc: Global, case: &Case) -> Result<bool, NormalError> {
     Ok(!is_entailed(alloc, &program, &normal, &none, &other)?)
 }
 
-fn clause_of(alloc: Global, codes: &[u32]) -> Result<Clause, NoMemory> {
-    let mut clause = Clause::open();
-    for code in codes {
-        clause.push(alloc, Lit(*code))?;
-    }
-    Ok(clause)
-}
-
 #[test]
 fn base_clauses_are_entailed_by_the_slow_check(rt: HostRuntime) -> Result<(), Fail> {
     for (number, case) in CASES.iter().enumerate() {
         assert!(rt; is_told_apart(rt.alloc(), case)?, "{number}");
-    }
-    Ok(())
-}
-
-// 2 where two of 3 and 3. The fact 3.
-static A_LITERAL_TWICE: &[u8] = b"2 2 2 0 2 3 3\n1 3 0 0\n0\n2 a\n0\nB+\n0\nB-\n1\n0\n1\n";
-
-/// Whether the bodies are 3 with weight 2 and bound 2, and the empty one.
-fn are_the_merged_bodies(normal: &Normal) -> bool {
-    let [twice, empty] = normal.bodies.as_slice() else {
-        return false;
-    };
-    let [part] = twice.parts.as_slice() else {
-        return false;
-    };
-    let merged = part.lit.atom == 3 && !part.lit.negated && part.weight == 2;
-    merged && twice.bound == 2 && empty.bound == 0 && empty.parts.len() == 0
-}
-
-#[test]
-fn a_literal_that_a_text_has_twice_is_one_part(rt: HostRuntime) -> Result<(), Fail> {
-    match normal_of(rt.alloc(), A_LITERAL_TWICE) {
-        Some(normal) => assert!(rt; are_the_merged_bodies(&normal)),
-        None => assert!(rt; false),
     }
     Ok(())
 }

@@ -97,28 +97,28 @@ true_later n steps lit is = go (step_of (take n steps) (variable lit)) refl is
         ap (λ o. value_by o lit) (step_of_before n steps (variable lit) step found) ∙ made
 
 -- the decisions behind a false assumed literal are assumed
-decision_assumed : (assumed : List Lit) (steps : List Step) (refused lit : Lit)
-    → AreAssumedFirst assumed steps → Contains assumed refused → IsFalse steps refused
+decision_assumed : (assumed : List Lit) (steps : List Step) (failed lit : Lit)
+    → AreAssumedFirst assumed steps → Contains assumed failed → IsFalse steps failed
     → IsDecision steps lit → Contains assumed lit
-decision_assumed assumed steps refused lit first here wrong (k, step, within, is, made) =
+decision_assumed assumed steps failed lit first here wrong (k, step, within, is, made) =
     elim (first k step (slice_get_read steps (length steps) k step refl within (sym is)) made.1) [
       | inl among ↦ subst (Contains assumed) made.0 among
       | inr all_true ↦
-          let was : value_of (take k steps) refused ≡ Yes =
-          All-contains (λ l. value_of (take k steps) l ≡ Yes) assumed refused all_true here in
-          let is_yes = true_later k steps refused was in absurd (cc)
+          let was : value_of (take k steps) failed ≡ Yes =
+          All-contains (λ l. value_of (take k steps) l ≡ Yes) assumed failed all_true here in
+          let is_yes = true_later k steps failed was in absurd (cc)
     ]
 
 pub core_unmet : (clauses : List (List Lit)) (steps : List Step) (assumed : List Lit)
-    (refused : Lit) (core : List Lit) → AreAssumedFirst assumed steps → Contains assumed refused
-    → IsFalse steps refused
-    → IsCore steps refused core → CannotMeet clauses core → IsUnmet clauses assumed core
-core_unmet clauses steps assumed refused core first here wrong is unmet =
+    (failed : Lit) (core : List Lit) → AreAssumedFirst assumed steps → Contains assumed failed
+    → IsFalse steps failed
+    → IsCore steps failed core → CannotMeet clauses core → IsUnmet clauses assumed core
+core_unmet clauses steps assumed failed core first here wrong is unmet =
     record {
       among = subst (All (Contains assumed)) (sym is.is)
-          (All-cons (Contains assumed) refused is.decisions here
+          (All-cons (Contains assumed) failed is.decisions here
           (All-weaker (IsDecision steps) (Contains assumed)
-          (λ lit. decision_assumed assumed steps refused lit first here wrong) is.decisions
+          (λ lit. decision_assumed assumed steps failed lit first here wrong) is.decisions
           is.decided));
       unmet = unmet;
     }

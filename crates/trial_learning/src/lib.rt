@@ -6,11 +6,17 @@
 mod all_assignments;
 mod next_decision;
 #[cfg(test)]
+mod propagation_scenes;
+#[cfg(test)]
 mod random;
 mod search;
+#[cfg(test)]
+mod store_scenes;
 #[cfg(test)]
 mod tests;
 #[cfg(test)]
 mod unit_checks;
+#[cfg(test)]
+mod unit_scenes;
 
 pub use search::{Answer, Search};

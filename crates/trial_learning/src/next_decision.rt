@@ -1,7 +1,7 @@
 // What steers a search: what is to be decided next.
 ghost use Rattle.std.specs.Prelude.{◌≡◌, ◌≢◌, ◌<◌, length, All, IfNone, IfSome};
 ghost use Rattle.clause_store.specs.Clause.{IsOver};
-ghost use Rattle.clause_store.specs.Trail.{IsTotal, IsTrail, value_of};
+ghost use Rattle.clause_store.specs.Trail.{IsTotal, value_of};
 ghost use Rattle.trial_learning.specs.Search.{AreTrue, IsNotTrueAt};
 
 use clause_store::{Lit, Trail, Value, Var};
@@ -33,11 +33,4 @@ pub fn least_unset(trail: &Trail) -> Option<Lit>
         }
     }
     None
-}
-
-/// The trail is one, as contracts know it. It does nothing when it runs.
-pub fn know_trail(trail: &Trail)
-    ensures { IsTrail trail.now }
-{
-    let _ = trail.steps();
 }

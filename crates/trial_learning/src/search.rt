@@ -11,7 +11,7 @@ ghost use Rattle.trial_learning.specs.Search.{AreAssumedFirst, AreSettledBelow, 
 ghost use Rattle.trial_learning.specs.Search.{AddsUnits, GoesOn, IsSearchAnswer, IsLaterState};
 ghost use Rattle.trial_learning.specs.Search.{IsNearer, IsNotTrueAt};
 
-use crate::next_decision::{first_not_true, know_trail, least_unset};
+use crate::next_decision::{first_not_true, least_unset};
 use clause_store::{Clause, ClauseRef, Lit, NoMemory, Store, Trail, Value};
 use conflict_learning::{Learned, analyse, final_core, greatest_level};
 use propagator::{Watches, propagate};
@@ -97,7 +97,7 @@ impl Search {
             if let Some(answer) = self.turn(alloc, assumed)? {
                 return Ok(Some(answer));
             }
-            know_trail(&self.trail);
+            self.trail.vouch();
         }
         Ok(None)
     }
@@ -136,7 +136,7 @@ impl Search {
         ensures nearer { IfOk result (λ it. IfNone it (
             length self.new.store ≡ length self.old.store + 1)) }
     {
-        know_trail(&self.trail);
+        self.trail.vouch();
         let level = greatest_level(&self.trail, self.store.lits(conflict));
         if level == 0 {
             return Ok(Some(Answer::Core(Clause::open())));
@@ -163,10 +163,9 @@ impl Search {
         ensures on { (assumed : List Lit) →
             GoesOn assumed self.old.store self.new.store self.old.trail self.new.trail }
     {
-        know_trail(&self.trail);
+        self.trail.vouch();
         self.trail.back_to(level);
         self.watches.rewind(&self.trail);
-        know_trail(&self.trail);
     }
 
     /// Makes the next literal true. The answer is a model where there is none left.

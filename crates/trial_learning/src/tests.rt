@@ -9,6 +9,7 @@ ghost use Rattle.clause_store.specs.Clause.{IsOver};
 use crate::all_assignments::is_right;
 use crate::random::{Draws, clause_of, lits_of, random_clause, random_lits};
 use crate::search::{Answer, Search};
+use crate::{propagation_scenes, store_scenes, unit_scenes};
 use crate::unit_checks::are_confirmed;
 use clause_store::{Lit, NoMemory};
 use conflict_learning::Learned;
@@ -29,9 +30,9 @@ struct Case {
     back: u32,
 }
 
-const CASES: [Case; 8] = [
+const CASES: [Case; 9] = [
     Case {
-        shows: "the refused literal comes first in a core, and the decision after it",
+        shows: "the failed literal comes first in a core, and the decision after it",
         vars: 2,
         clauses: &[&[3, 4]],
         assumed: &[2, 5],
@@ -96,6 +97,16 @@ const CASES: [Case; 8] = [
         clauses: &[&[3], &[2, 5]],
         assumed: &[6, 4],
         core: Some(&[4]),
+        learned: 0,
+        last: &[],
+        back: 0,
+    },
+    Case {
+        shows: "a core leaves out a decision that doesn't matter",
+        vars: 5,
+        clauses: &[&[2], &[3, 5, 8], &[9, 10]],
+        assumed: &[4, 6, 11],
+        core: Some(&[11, 4]),
         learned: 0,
         last: &[],
         back: 0,
@@ -273,5 +284,83 @@ fn random_clauses_get_right_answers_and_teach_units(rt: HostRuntime) -> Result<(
         learned = done.learned;
     }
     assert!(rt; conflicts > 400);
+    Ok(())
+}
+
+#[test]
+fn clauses_come_back(rt: HostRuntime) -> Result<(), Fail> {
+    assert!(rt; store_scenes::clauses_come_back(rt.alloc())?);
+    Ok(())
+}
+
+#[test]
+fn lists_of_clauses_are_copied(rt: HostRuntime) -> Result<(), Fail> {
+    assert!(rt; store_scenes::lists_of_clauses_are_copied(rt.alloc())?);
+    Ok(())
+}
+
+#[test]
+fn clauses_change(rt: HostRuntime) -> Result<(), Fail> {
+    assert!(rt; store_scenes::clauses_change(rt.alloc())?);
+    Ok(())
+}
+
+#[test]
+fn a_budget_counts(rt: HostRuntime) -> Result<(), Fail> {
+    assert!(rt; store_scenes::a_budget_counts(rt.alloc())?);
+    Ok(())
+}
+
+#[test]
+fn assignments_come_and_go(rt: HostRuntime) -> Result<(), Fail> {
+    assert!(rt; store_scenes::assignments_come_and_go(rt.alloc())?);
+    Ok(())
+}
+
+#[test]
+fn a_unit_comes_and_goes(rt: HostRuntime) -> Result<(), Fail> {
+    assert!(rt; propagation_scenes::a_unit_comes_and_goes(rt.alloc())?);
+    Ok(())
+}
+
+#[test]
+fn a_chain_ends_in_a_false_clause(rt: HostRuntime) -> Result<(), Fail> {
+    assert!(rt; propagation_scenes::a_chain_ends_in_a_false_clause(rt.alloc())?);
+    Ok(())
+}
+
+#[test]
+fn a_unit_stands_at_level_0(rt: HostRuntime) -> Result<(), Fail> {
+    assert!(rt; propagation_scenes::a_unit_stands_at_level_0(rt.alloc())?);
+    Ok(())
+}
+
+#[test]
+fn propagation_goes_on(rt: HostRuntime) -> Result<(), Fail> {
+    assert!(rt; unit_scenes::propagation_goes_on(rt.alloc())?);
+    Ok(())
+}
+
+#[test]
+fn refutations_are_told(rt: HostRuntime) -> Result<(), Fail> {
+    assert!(rt; unit_scenes::refutations_are_told(rt.alloc())?);
+    Ok(())
+}
+
+#[test]
+fn absorbed_clauses_are_told(rt: HostRuntime) -> Result<(), Fail> {
+    assert!(rt; unit_scenes::absorbed_clauses_are_told(rt.alloc())?);
+    Ok(())
+}
+
+#[test]
+fn values_are_small(rt: HostRuntime) -> Result<(), Fail> {
+    assert!(rt; store_scenes::values_are_small());
+    Ok(())
+}
+
+#[test]
+fn units_are_told_from_others(rt: HostRuntime) -> Result<(), Fail> {
+    assert_eq!(rt; unit_scenes::wrongly_told(rt.alloc())?, None);
     Ok(())
 }

@@ -1,18 +1,17 @@
 -- The reports that a program gets.
-use Rattle.std.proofs.Common.{◌≡◌, ℕ, Bool, List, [], ◌∷◌, ◌++◌, refl, sym, subst, append-nil}
-use Rattle.byte_edges.specs.Edges.{Writes}
+use Rattle.std.proofs.Common.{Bool, List, [], refl, sym, subst, append-nil}
 use Rattle.ground_program.specs.declared.program.Mode.TheVariants.{Cautious}
 use Rattle.ground_program.specs.declared.program.Program.{Program}
 use Rattle.ground_program.specs.Meaning.{IsAnswerSet, MeetsCompute}
 use Rattle.least_model.specs.Candidate.{IsOnlyCandidate}
 use Rattle.report.specs.OneSet.{IsOnlyAnswerSet, one_set_lines, one_set_report}
 use Rattle.report.specs.Text.{text_of_line, text_of_lines}
-use Rattle.report.specs.declared.lines.Line.TheVariants.{Complete, Incoherent, NoMemory}
+use Rattle.report.specs.declared.lines.Line.TheVariants.{Incoherent, NoMemory}
 use Rattle.report.proofs.LegalLemmas.{legal_incoherent_at_once, legal_no_memory, so_far_none}
 use Rattle.report.proofs.LegalLemmas.{inside_unwatched}
 use Rattle.report.proofs.OneSetLemmas.{legal_one_set}
 use Rattle.wasp2_run.specs.Built.{IsBuilt}
-use Rattle.wasp2_run.specs.Run.{IsReport, Answers, complete, incoherent, no_memory}
+use Rattle.wasp2_run.specs.Run.{Answers, complete, incoherent, no_memory}
 
 -- where the only candidate meets the compute statement it is the only answer set
 pub only_set : (program : Program) (set : List Bool) → IsOnlyCandidate program set

@@ -1,5 +1,5 @@
 -- How a call that writes one of several texts ends, from what its writing did.
-use Rattle.std.proofs.Common.{◌≡◌, ℕ, List, Option, Ok, Err, refl}
+use Rattle.std.proofs.Common.{ℕ, List, Option, Ok, Err, refl}
 use Rattle.std.specs.Prelude.{Result, IsErr}
 use Rattle.byte_edges.specs.Edges.{Writes}
 use Rattle.byte_edges.proofs.CallerLemmas.{writes_ok, writes_fault}

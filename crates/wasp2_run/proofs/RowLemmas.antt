@@ -1,13 +1,10 @@
 -- Which row of the table a run comes to.
-use Rattle.std.proofs.Common.{◌≡◌, ◌≢◌, ◌≤◌, ◌<◌, ℕ, List, [], ◌∷◌, Option, Some, None, Ok, Err}
-use Rattle.std.proofs.Common.{length, drop, refl, sym, subst, inl, inr, ◌⊎◌}
-use Rattle.std.specs.Prelude.{Result, IfSome, IfOk, IfErr, IsErrOf}
+use Rattle.std.proofs.Common.{◌≡◌, ◌≢◌, ℕ, List, [], Option, Some, None, Ok, Err}
+use Rattle.std.proofs.Common.{refl, sym, subst, arith}
+use Rattle.std.specs.Prelude.{Result, IfOk}
 use Rattle.byte_edges.specs.Faults.{Rose}
-use Rattle.byte_edges.specs.Edges.{Writes}
 use Rattle.ground_program.specs.declared.program.Program.{Program}
-use Rattle.lparse_reader.specs.Pieces.{Reads}
-use Rattle.lparse_reader.specs.Refuses.{Refuses, IsRefusedOfSource}
-use Rattle.lparse_reader.specs.Refusal.{IsShortIfRead}
+use Rattle.lparse_reader.specs.Refuses.{IsOutcome, IsOfSomeText}
 use Rattle.lparse_reader.specs.declared.fault.ReadError.{ReadError}
 use Rattle.lparse_reader.specs.declared.fault.ReadError.TheVariants.{Text, TooLong, ReadFault}
 use Rattle.lparse_reader.specs.declared.fault.ReadError.TheVariants.{NoMemory}
@@ -45,18 +42,21 @@ ends_given P (Err error) one each = tt
 -- the row of a program
 pub allowed_answer : (words : List (List ℕ)) (told : Option (List ℕ)) (before now : ℕ)
     (program : Program) (status : ℕ) (text : List ℕ) → IsQuery words
-    → IfSome told (λ bytes. Reads bytes program)
-    → IfSome told (λ bytes. length bytes ≤ 67108864) → Answers program status text
+    → IsOfSomeText told (Ok program) → Answers program status text
     → IsAllowed words told before now status text
-allowed_answer words None before now program status text query reads few answers = inl query
-allowed_answer words (Some input) before now program status text query reads few answers =
-    answered program query few reads answers
+allowed_answer words told before now program status text query of answers = record {
+  input = of.bytes;
+  same = of.same;
+  row = answered program query of.outcome.0 of.outcome.1 answers;
+}
 
 -- the row of other words
 pub allowed_words : (words : List (List ℕ)) (told : Option (List ℕ)) (before now : ℕ)
     → ¬ IsQuery words → IsAllowed words told before now 4 (refusal 0 whys.Words 0)
-allowed_words words None before now none = inr (other_words none)
-allowed_words words (Some input) before now none = other_words none
+allowed_words words None before now none =
+    record { input = []; same = tt; row = other_words none }
+allowed_words words (Some left) before now none =
+    record { input = left; same = refl; row = other_words none }
 
 row_is : (words : List (List ℕ)) (input : List ℕ) (before now status other : ℕ) (text same : List ℕ)
     → Row words input before now status text → other ≡ status → same ≡ text
@@ -67,32 +67,47 @@ row_is words input before now status other text same row is_status is_text =
 
 -- the row of an input that gives no program
 row_refusal : (words : List (List ℕ)) (input : List ℕ) (before now : ℕ) (error : ReadError)
-    → IsQuery words → IsRefusedOfSource input error → IsShortIfRead {A = Program} (Err error) input
-    → (error ≡ TooLong → 67108864 < length input) → (error ≡ ReadFault → Rose before now)
+    → IsQuery words → IsOutcome input (Err error) → (error ≡ ReadFault → Rose before now)
     → Row words input before now (refusal_status error) (refusal_text error)
-row_refusal words input before now (Text why line value) query is_refused few long rose =
-    refused query few is_refused
-row_refusal words input before now TooLong query is_refused few long rose =
-    too_long query (long refl)
-row_refusal words input before now ReadFault query is_refused few long rose =
-    read_fault query (rose refl)
-row_refusal words input before now NoMemory query is_refused few long rose = table.no_memory
+row_refusal words input before now (Text why line value) query outcome rose =
+    refused query outcome.0 outcome.1
+row_refusal words input before now TooLong query outcome rose = too_long query outcome
+row_refusal words input before now ReadFault query outcome rose = read_fault query (rose refl)
+row_refusal words input before now NoMemory query outcome rose = table.no_memory
 
 pub allowed_refusal : (words : List (List ℕ)) (told : Option (List ℕ)) (before now : ℕ)
     (error : ReadError) (status : ℕ) (text : List ℕ) → IsQuery words
-    → IfSome told (λ bytes. IsRefusedOfSource bytes error)
-    → IfSome told (IsShortIfRead {A = Program} (Err error))
-    → (error ≡ TooLong → IfSome told (λ bytes. 67108864 < length bytes))
-    → (error ≡ ReadFault → Rose before now) → IsRefusalOf error status text
-    → IsAllowed words told before now status text
-allowed_refusal words None before now error status text query is_refused few long rose is =
-    inl query
-allowed_refusal words (Some input) before now error status text query is_refused few long rose is =
-    row_is words input before now (refusal_status error) status (refusal_text error) text
-    (row_refusal words input before now error query is_refused few long rose) is.0 is.1
+    → IsOfSomeText told (Err error) → (error ≡ ReadFault → Rose before now)
+    → IsRefusalOf error status text → IsAllowed words told before now status text
+allowed_refusal words told before now error status text query of rose is = record {
+  input = of.bytes;
+  same = of.same;
+  row =
+      row_is words of.bytes before now (refusal_status error) status (refusal_text error) text
+      (row_refusal words of.bytes before now error query of.outcome rose) is.0 is.1;
+}
 
--- of two facts on what was told, the first
-pub first_told : (told : Option (List ℕ)) (P Q : List ℕ → Type 0)
-    → IfSome told (λ bytes. P bytes × Q bytes) → IfSome told P
-first_told None P Q both = tt
-first_told (Some bytes) P Q both = both.0
+-- for a program no status says that reading failed, that the words are refused or that writing
+-- failed
+pub answers_apart : (program : Program) (status : ℕ) (text : List ℕ)
+    → Answers program status text → (status ≢ 5) × (status ≢ 4) × (status ≢ 6)
+answers_apart program status text (complete built report) = (
+  λ e. omega (arith, e),
+  λ e. omega (arith, e),
+  λ e. omega (arith, e),
+)
+answers_apart program status text (incoherent built report) = (
+  λ e. omega (arith, e),
+  λ e. omega (arith, e),
+  λ e. omega (arith, e),
+)
+answers_apart program status text (not_yet none) = (
+  λ e. omega (arith, e),
+  λ e. omega (arith, e),
+  λ e. omega (arith, e),
+)
+answers_apart program status text (table.Answers.no_memory report) = (
+  λ e. omega (arith, e),
+  λ e. omega (arith, e),
+  λ e. omega (arith, e),
+)

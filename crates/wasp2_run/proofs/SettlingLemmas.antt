@@ -1,14 +1,10 @@
 -- The lines of the candidates, one after another.
-use Rattle.std.proofs.Common.{◌≡◌, ◌≤◌, ◌<◌, ◌+◌, ◌-◌, ℕ, zero, suc, Bool, true, false, List, []}
-use Rattle.std.proofs.Common.{◌∷◌, ◌++◌, Option, Some, None, Ok, length, refl, sym, ◌∙◌, ap, subst}
+use Rattle.std.proofs.Common.{◌≡◌, ◌≤◌, ◌<◌, ◌+◌, ℕ, zero, suc, Bool, List, []}
+use Rattle.std.proofs.Common.{◌∷◌, ◌++◌, Option, Ok, length, sym, ◌∙◌, ap}
 use Rattle.std.proofs.Common.{arith, add-one, append-nil, append_assoc, inl, inr, ◌⊎◌}
-use Rattle.std.specs.Prelude.{slice_get, if◌then◌else◌}
-use Rattle.std.specs.Option.{option_map_or}
 use Rattle.byte_edges.specs.Edges.{Writes}
 use Rattle.byte_edges.specs.declared.writing.WriteFault.{WriteFault}
 use Rattle.ground_program.specs.declared.program.Named.{Named}
-use Rattle.ground_program.specs.Bounds.{atom_of}
-use Rattle.ground_program.specs.Meaning.{has}
 use Rattle.report.specs.OneSet.{settled_line, settled_lines, count_in, one_set_lines}
 use Rattle.report.specs.OneSet.{one_set_report}
 use Rattle.report.specs.Text.{text_of_line, text_of_lines}

@@ -1,6 +1,6 @@
 -- What a run may write for its words and its input, and the status with which it ends.
-use Rattle.std.specs.Prelude.{◌≡◌, ◌≤◌, ◌<◌, ◌⊎◌, ℕ, List, [], ◌∷◌, ◌++◌, Option, Some, None}
-use Rattle.std.specs.Prelude.{length, take, codes}
+use Rattle.std.specs.Prelude.{◌≡◌, ◌≤◌, ◌<◌, ◌⊎◌, ℕ, List, [], ◌∷◌, ◌++◌, Option}
+use Rattle.std.specs.Prelude.{length, take, codes, IfSome}
 use Rattle.byte_edges.specs.Faults.{Rose}
 use Rattle.byte_edges.specs.Edges.{Appended}
 use Rattle.ground_program.specs.declared.program.Mode.TheVariants.{Cautious}
@@ -95,11 +95,12 @@ pub data Row (words : List (List ℕ)) (input : List ℕ) (before now : ℕ) : �
   no_memory : Row words input before now 7 (text_of_line [] lines.NoMemory)
   silent : Row words input before now 7 []
 
--- a row of the table, for the input that the source told. Where it told none, this is said of other
--- words alone
-abbrev pub IsAllowed : List (List ℕ) → Option (List ℕ) → ℕ → ℕ → ℕ → List ℕ → Type 0
-IsAllowed words None before now status text = IsQuery words ⊎ Row words [] before now status text
-IsAllowed words (Some input) before now status text = Row words input before now status text
+-- a row of the table, for some input, which is the one that the source told where it told one
+pub record IsAllowed (words : List (List ℕ)) (told : Option (List ℕ)) (before now status : ℕ)
+    (text : List ℕ) : Type 0 where
+  pub input : List ℕ
+  pub same : IfSome told (λ left. input ≡ left)
+  pub row : Row words input before now status text
 
 -- the writing was cut off: the sink failed, and a first part of what is allowed was written
 pub record IsCutOff (Allowed : ℕ → List ℕ → Type 0) (before now : ℕ) (text : List ℕ) : Type 0 where

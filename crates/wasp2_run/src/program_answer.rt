@@ -9,8 +9,8 @@ ghost use Rattle.wasp2_run.specs.Ending.{Ends};
 use crate::one_set_lines::write_one_set;
 use crate::refusal_line::{refuse, tell_no_memory};
 use byte_edges::{Sink, WriteFault};
-use ground_program::{Program, Set};
-use least_model::{first_other_rule, least_model, meets_compute};
+use ground_program::{Program, Set, meets_compute};
+use least_model::{first_other_rule, least_model};
 use report::{Line, Why, write_line};
 use std::alloc::Global;
 

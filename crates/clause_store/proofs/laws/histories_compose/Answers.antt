@@ -1,4 +1,4 @@
-use Rattle.clause_store.proofs.HistoryLemmas as lemma
+use Rattle.clause_store.proofs.lemmas.Units.HistoryLemmas as lemma
 use Rattle.clause_store.proofs.laws.histories_compose.Goals as goal
 
 pub returns : goal.returns

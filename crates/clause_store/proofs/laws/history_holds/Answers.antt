@@ -1,4 +1,4 @@
-use Rattle.clause_store.proofs.HistoryLemmas as lemma
+use Rattle.clause_store.proofs.lemmas.Units.HistoryLemmas as lemma
 use Rattle.clause_store.proofs.laws.history_holds.Goals as goal
 
 pub returns : goal.returns

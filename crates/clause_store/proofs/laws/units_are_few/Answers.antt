@@ -1,4 +1,4 @@
-use Rattle.clause_store.proofs.RowLemmas as lemma
+use Rattle.clause_store.proofs.lemmas.Units.RowLemmas as lemma
 use Rattle.clause_store.proofs.laws.units_are_few.Goals as goal
 
 pub returns : goal.returns

@@ -1,9 +1,9 @@
 use Rattle.normal_program.proofs.RangeLemmas.{IsNormal-in_range}
 use Rattle.normal_program.specs.Clauses.{base_clauses}
 use Rattle.completion.proofs.GainLemmas.{gain_keeps_trails}
-use Rattle.completion.proofs.OverLemmas.{base_clauses-over}
-use Rattle.completion.proofs.EntailedLemmas.{base_clauses-entailed}
-use Rattle.completion.proofs.ModelLemmas.{base_clauses-make_models}
+use Rattle.normal_program.proofs.lemmas.Base.OverLemmas.{base_clauses-over}
+use Rattle.normal_program.proofs.lemmas.Base.EntailedLemmas.{base_clauses-entailed}
+use Rattle.normal_program.proofs.lemmas.Base.ModelLemmas.{base_clauses-make_models}
 use Rattle.completion.proofs.completing.complete.Goals as goal
 
 pub complete_whole-requires : goal.complete_whole-requires

@@ -1,10 +1,6 @@
-use Rattle.byte_edges.proofs.CallerLemmas.{writes_then, writes_longer, writes_fault}
+use Rattle.byte_edges.proofs.CallerLemmas.{writes_page}
 use Rattle.report.proofs.writing.write_line.Goals as goal
 
-pub returns-in_err-write_words : goal.returns-in_err-write_words
-returns-in_err-write_words g c =
-    writes_fault c.from_residual.ensures.0 (writes_longer _ c.in_err-write_words.ensures)
-
-pub returns : goal.returns
-returns g c =
-    writes_then c.in_ok-write_words.ensures c.write_bytes.ensures
+pub returns-in-Ok : goal.returns-in-Ok
+returns-in-Ok g c =
+    writes_page c.open-page.ensures c.in-Ok.ensures c.written.ensures c.write_bytes.ensures

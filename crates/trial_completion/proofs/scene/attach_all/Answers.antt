@@ -6,5 +6,5 @@ pub loop-at-preserved : goal.loop-at-preserved
 loop-at-preserved c =
     ready_with_next c.args.store.now c.args.trail.now c.loop-at.watches c.attach.new.self
     (record { 0 = c.loop-at.at }) c.requires.over
-    (omega (arith, c.loop-at-test.true, c.len-at-end.ensures)) c.loop-at.invariant
+    (omega (arith, c.loop-at-test.true, c.len-at-end.ensures.len)) c.loop-at.invariant
     c.in_ok-attach.ensures.ok

@@ -1,4 +1,4 @@
-use Rattle.wasp2_run.specs.Run.{Answers, not_yet}
+use Rattle.wasp2_run.specs.Run.{not_yet}
 use Rattle.wasp2_run.proofs.EndingLemmas.{ends_ok, ends_fault}
 use Rattle.wasp2_run.proofs.AnswerLemmas.{answers_no_memory}
 use Rattle.wasp2_run.proofs.program_answer.answer.Goals as goal

@@ -1,6 +1,5 @@
 use Rattle.std.proofs.Common.{rules}
 use Rattle.ground_program.specs.Meaning.{MeetsCompute}
-use Rattle.wasp2_run.specs.Run.{Answers}
 use Rattle.wasp2_run.proofs.EndingLemmas.{ends_ok, ends_fault}
 use Rattle.wasp2_run.proofs.AnswerLemmas.{answers_complete, answers_incoherent}
 use Rattle.wasp2_run.proofs.program_answer.write_candidate.Goals as goal

@@ -1,5 +1,6 @@
 use Rattle.std.proofs.Common.{◌∙◌, sym, ap₂, subst, ◌<◌, ◌≤◌}
 use Rattle.clause_store.specs.Trail.{Assigned}
+use Rattle.clause_store.proofs.lemmas.Trails.FollowedLemmas.{goes_back}
 use Rattle.clause_store.proofs.ReasonLemmas.{way_goes_on, up_to_all}
 use Rattle.clause_store.proofs.trail.Trail.back_to.Goals as goal
 
@@ -20,3 +21,8 @@ returns-clause-steps c =
     (up_to_all c.args.level c.loop-self.self.steps
     (subst (λ level. level ≤ c.args.level) c.level.ensures.level c.loop-self-test.false))
     ∙ c.loop-self.invariant.1.kept)
+
+pub returns-clause-back : goal.returns-clause-back
+returns-clause-back c =
+    goes_back c.args.self.now c.loop-self.self c.args.level c.vouch.ensures
+    (returns-clause-steps c)

@@ -14,7 +14,7 @@ pub returns-then-level-eq0-clause-answer : goal.returns-then-level-eq0-clause-an
 returns-then-level-eq0-clause-answer c assumed =
     subst (IsUnmet c.args.self.now.store assumed) (sym c.open.ensures)
     (none_met c.args.self.now.store c.args.self.now.trail assumed c.args.conflict c.lits.result.now
-    c.know_trail.ensures c.requires.ready.of_store c.requires.conflict c.lits.ensures.lits
+    c.vouch.ensures c.requires.ready.of_store c.requires.conflict c.lits.ensures.lits
     (sym c.greatest_level-level.ensures ∙ c.if-level-eq0.true))
 
 pub go_back-requires-clause-level : goal.go_back-requires-clause-level

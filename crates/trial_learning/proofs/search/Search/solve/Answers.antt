@@ -49,7 +49,7 @@ pub turns-smaller : goal.turns-smaller
 turns-smaller c =
     fewer_turns c.saturating_add-full.result c.turns.self.store c.turn.new.self.store
     c.turns.self.trail c.turn.new.self.trail
-    (omega (arith, c.turns-test.true, c.len-in-turns.ensures)) c.know_trail.ensures
+    (omega (arith, c.turns-test.true, c.len-in-turns.ensures.len)) c.vouch.ensures
     c.in_ok-answer.ensures.on.vars
     (without_answer c.in_ok-answer.field-0 c.in_ok-answer.ensures.nearer
     (λ x is. c.in_default.not-Some x is))

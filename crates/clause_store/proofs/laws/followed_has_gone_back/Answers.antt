@@ -1,0 +1,5 @@
+use Rattle.clause_store.proofs.lemmas.Trails.FollowedLemmas as lemma
+use Rattle.clause_store.proofs.laws.followed_has_gone_back.Goals as goal
+
+pub returns : goal.returns
+returns c = lemma.followed_has_gone_back

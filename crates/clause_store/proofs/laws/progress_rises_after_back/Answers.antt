@@ -1,0 +1,5 @@
+use Rattle.clause_store.proofs.lemmas.Progress.ProgressLemmas as lemma
+use Rattle.clause_store.proofs.laws.progress_rises_after_back.Goals as goal
+
+pub returns : goal.returns
+returns c = lemma.progress_rises_after_back

@@ -1,0 +1,3 @@
+-- How far a search has come on a trail.
+pub mod CountLemmas
+pub mod ProgressLemmas

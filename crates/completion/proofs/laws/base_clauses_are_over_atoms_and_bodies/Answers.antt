@@ -1,5 +1,0 @@
-use Rattle.completion.proofs.OverLemmas.{base_clauses-over}
-use Rattle.completion.proofs.laws.base_clauses_are_over_atoms_and_bodies.Goals as goal
-
-pub returns : goal.returns
-returns c = base_clauses-over

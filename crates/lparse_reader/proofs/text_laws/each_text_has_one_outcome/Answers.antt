@@ -1,0 +1,5 @@
+use Rattle.lparse_reader.proofs.OutcomeLaw.{one_outcome}
+use Rattle.lparse_reader.proofs.text_laws.each_text_has_one_outcome.Goals as goal
+
+pub returns : goal.returns
+returns c = one_outcome

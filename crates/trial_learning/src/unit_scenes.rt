@@ -1,0 +1,126 @@
+// Small lists of clauses whose closures and units are known. Literal 2 says that variable 1 is
+// true, literal 3 that it is false, and so on.
+use clause_store::{Clause, Lit, NoMemory, Units};
+use plain_units::{absorbs, are_units, closure, refutes};
+use std::alloc::Global;
+
+/// A list of clauses beside clauses that there are before.
+struct Case {
+    shows: &'static str,
+    base: &'static [&'static [u32]],
+    list: &'static [&'static [u32]],
+    are_units: bool,
+}
+
+/// A chain of two steps, and a clause that its end makes false with one literal more.
+const CHAIN: &[&[u32]] = &[&[5, 6], &[3, 4], &[7, 9, 8]];
+
+const CASES: [Case; 9] = [
+    Case {
+        shows: "no clause",
+        base: &[&[2]],
+        list: &[],
+        are_units: true,
+    },
+    Case {
+        shows: "a clause that is new",
+        base: &[&[3, 4], &[5, 6]],
+        list: &[&[2, 8]],
+        are_units: true,
+    },
+    Case {
+        shows: "a clause that contains another",
+        base: &[&[3, 4]],
+        list: &[&[3, 4, 6]],
+        are_units: false,
+    },
+    Case {
+        shows: "what two clauses give in two steps",
+        base: &[&[3, 4], &[5, 6]],
+        list: &[&[3, 6]],
+        are_units: false,
+    },
+    Case {
+        shows: "what follows by cases and not by propagation",
+        base: &[&[2, 4], &[2, 5]],
+        list: &[&[2]],
+        are_units: true,
+    },
+    Case {
+        shows: "the empty clause",
+        base: &[],
+        list: &[&[]],
+        are_units: false,
+    },
+    Case {
+        shows: "a variable twice",
+        base: &[],
+        list: &[&[2, 3]],
+        are_units: false,
+    },
+    Case {
+        shows: "the same clause twice",
+        base: &[],
+        list: &[&[2, 4], &[2, 4]],
+        are_units: false,
+    },
+    Case {
+        shows: "a shorter clause after a longer one",
+        base: &[],
+        list: &[&[2, 4], &[2]],
+        are_units: true,
+    },
+];
+
+/// What the first case shows that is told wrongly.
+pub fn wrongly_told(alloc: Global) -> Result<Option<&'static str>, NoMemory> {
+    for case in &CASES {
+        if is_told(alloc, case)? != case.are_units {
+            return Ok(Some(case.shows));
+        }
+    }
+    Ok(None)
+}
+
+/// Whether the list of a case is told to be one of units.
+fn is_told(alloc: Global, case: &Case) -> Result<bool, NoMemory> {
+    let base = clauses_of(alloc, case.base)?;
+    let list = clauses_of(alloc, case.list)?;
+    are_units(alloc, &base, &list)
+}
+
+/// Whether propagation goes on to the end.
+pub fn propagation_goes_on(alloc: Global) -> Result<bool, NoMemory> {
+    let clauses = clauses_of(alloc, CHAIN)?;
+    let known = closure(alloc, clauses.as_slice(), &[Lit(2)])?;
+    Ok(known.as_slice() == [Lit(2), Lit(4), Lit(6)].as_slice())
+}
+
+/// Whether literals are refuted where a clause is false in the end, and only there.
+pub fn refutations_are_told(alloc: Global) -> Result<bool, NoMemory> {
+    let clauses = clauses_of(alloc, CHAIN)?;
+    let refuted = refutes(alloc, clauses.as_slice(), &[Lit(2), Lit(7)])?;
+    let alone = refutes(alloc, clauses.as_slice(), &[Lit(2)])?;
+    Ok(refuted && !alone)
+}
+
+/// Whether a clause is absorbed where propagation does what it does, and only there.
+pub fn absorbed_clauses_are_told(alloc: Global) -> Result<bool, NoMemory> {
+    let clauses = clauses_of(alloc, CHAIN)?;
+    let absorbed = absorbs(alloc, clauses.as_slice(), &[Lit(3), Lit(6)])?;
+    let alone = absorbs(alloc, clauses.as_slice(), &[Lit(6)])?;
+    Ok(absorbed && !alone)
+}
+
+/// The clauses of lists of codes.
+fn clauses_of(alloc: Global, lists: &[&[u32]]) -> Result<Units, NoMemory> {
+    let mut clauses = Units::open();
+    for codes in lists {
+        let mut clause = Clause::open();
+        for code in *codes {
+            clause.push(alloc, Lit(*code))?;
+        }
+        clauses.push(alloc, clause)?;
+    }
+    Ok(clauses)
+}
