@@ -25,10 +25,10 @@ use Rattle.clause_store.specs.Trail.{Assigned, IsTrail, RisesFrom, next_level, p
 use Rattle.clause_store.proofs.BackLemmas.{front_after_back}
 use Rattle.clause_store.proofs.EntailmentLemmas.{refuted_follows}
 use Rattle.clause_store.proofs.LiteralLemmas.{all_through, has_first, has_later}
-use Rattle.clause_store.proofs.HistoryLemmas.{histories_add, histories_compose, history_has_units}
+use Rattle.clause_store.proofs.lemmas.Units.HistoryLemmas.{histories_add, histories_compose, history_has_units}
 use Rattle.clause_store.proofs.ReasonLemmas.{slice_get-seam}
 use Rattle.clause_store.proofs.TrailLemmas.{slice_get-append}
-use Rattle.clause_store.proofs.UnitLemmas.{units_among_fewer, units_split}
+use Rattle.clause_store.proofs.lemmas.Units.UnitLemmas.{units_among_fewer, units_split}
 use Rattle.propagator.specs.Fixpoint.{Extends}
 use Rattle.propagator.specs.Watched.{IsReady}
 use Rattle.assumption_engine.specs.Theory.{Meaning, MeansTheSame}

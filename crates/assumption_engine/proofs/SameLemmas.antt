@@ -1,5 +1,5 @@
 -- What stays where a theory means the same.
-use Rattle.std.proofs.Common.{◌≡◌, Bool, ◌≤◌, List, [], ◌++◌, length, take, refl, sym, ap, ◌∙◌}
+use Rattle.std.proofs.Common.{◌≡◌, Bool, ◌≤◌, List, [], ◌∷◌, ◌++◌, length, take, refl, sym, ap, ◌∙◌}
 use Rattle.std.proofs.Common.{subst, arith, length-take}
 use Rattle.std.specs.Prelude.{map}
 use Rattle.std.proofs.lemmas.List.{length-map, take-append-le}
@@ -8,9 +8,10 @@ use Rattle.clause_store.specs.declared.step.Step.{Step}
 use Rattle.clause_store.specs.Clause.{Meets}
 use Rattle.clause_store.specs.Laws.{AreMoreClauses}
 use Rattle.clause_store.specs.Standing.{AreFollowed, Followed, as_followed}
+use Rattle.clause_store.specs.Trail.{Assigned}
 use Rattle.propagator.specs.Fixpoint.{Extends}
 use Rattle.propagator.specs.Watched.{IsReady}
-use Rattle.assumption_engine.specs.Theory.{Meaning, MeansTheSame}
+use Rattle.assumption_engine.specs.Theory.{IsGiven, Meaning, MeansTheSame}
 use Rattle.assumption_engine.specs.Engine.{IsModelOf, IsRight}
 use Rattle.assumption_engine.specs.declared.state.State.{State}
 
@@ -101,3 +102,27 @@ right_extended meaning followed old new defined is ready store extends =
     store extends.vars
     (subst (λ steps. AreFollowed steps followed) (sym extends.steps)
     (followed_more old.trail.steps extends.added followed is.follows))
+
+-- an assignment comes last
+pub right_pushed : (meaning : Meaning) (followed : List Followed) (old new : State)
+    (defined : List (List Lit)) (step : Step) → IsRight meaning followed old defined
+    → IsReady new.store new.trail new.watches → new.store ≡ old.store
+    → new.trail ≡ record old.trail { steps = old.trail.steps ++ step ∷ [] }
+    → IsRight meaning followed new defined
+right_pushed meaning followed old new defined step is ready store trail =
+    right_moved meaning meaning followed followed old new defined (same_itself meaning) is ready
+    store (ap (λ t. t.vars) trail)
+    (subst (λ t. AreFollowed t.steps followed) (sym trail)
+    (followed_more old.trail.steps (step ∷ []) followed is.follows))
+
+-- what a theory gave it gives where it means the same
+pub given_same : (one two : Meaning) (trail : Assigned) (clause : List Lit)
+    → MeansTheSame one two → IsGiven one trail clause → IsGiven two trail clause
+given_same one two trail clause same is =
+    record {
+      may = (same.may_give clause).0 is.may;
+      holds = λ values model. is.holds values ((same.models values).1 model);
+      once = is.once;
+      over = is.over;
+      standing = is.standing;
+    }

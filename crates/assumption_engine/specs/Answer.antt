@@ -60,14 +60,14 @@ pub record IsSliceOver (stop : ℕ) (after : Counted) : Type 0 where
   pub at_stop : length after.units ≡ stop
   pub limit : length after.units < after.limit
 
--- how many were counted where each answer comes; want of memory may come at any time
+-- how many were counted where each answer comes but want of memory
 abbrev pub IsCountedRight : ℕ → Counted → Answer → Type 0
 IsCountedRight stop after Model = IsBelow stop after
 IsCountedRight stop after (Core core) = IsBelow stop after
 IsCountedRight stop after Spent = length after.units ≡ after.limit
 IsCountedRight stop after (SpentInside set units) = IsBelow stop after
 IsCountedRight stop after Paused = IsSliceOver stop after
-IsCountedRight stop after NoMemory = ⊤
+IsCountedRight stop after NoMemory = ⊥
 
 -- a turn that ended with an answer
 pub record HasEnded (meaning : Meaning) (defined : List (List Lit)) (assumed : List Lit)

@@ -68,7 +68,7 @@ impl<T: Theory> Engine<T> {
         requires room { HasRoom stop budget.now }
         ensures right { OnOk result (IsRight (T.meaning self.new.theory)
             (T.followed self.new.theory) self.new.state self.new.defined) }
-        ensures theory { self.new.theory ≡ self.old.theory }
+        ensures same { MeansTheSame (T.meaning self.old.theory) (T.meaning self.new.theory) }
         ensures defined { self.new.defined ≡ self.old.defined }
         ensures on { OnOk result (GoesOn (T.meaning self.old.theory) assumed.now self.old.state
             self.new.state budget.now budget.now) }
@@ -95,14 +95,13 @@ impl<T: Theory> Engine<T> {
         requires room { HasRoom stop budget.now }
         ensures right { IsRight (T.meaning self.new.theory) (T.followed self.new.theory)
             self.new.state self.new.defined }
-        ensures theory { self.new.theory ≡ self.old.theory }
+        ensures same { MeansTheSame (T.meaning self.old.theory) (T.meaning self.new.theory) }
         ensures defined { self.new.defined ≡ self.old.defined }
         ensures on { GoesOn (T.meaning self.old.theory) assumed.now self.old.state
             self.new.state budget.now budget.now }
         ensures turn { IsTurn (T.meaning self.old.theory) self.old.defined assumed.now stop
             self.old.state self.new.state budget.now result }
     {
-        let _ = (assumed, budget, stop);
         self.state.decide(lit);
         Turn::Going
     }
@@ -131,7 +130,6 @@ impl<T: Theory> Engine<T> {
         ensures turn { IfOk result (IsTurn (T.meaning self.old.theory) self.old.defined
             assumed.now stop self.old.state self.new.state budget.now) }
     {
-        let _ = (assumed, stop);
         let limit = budget.limit();
         match self
             .theory

@@ -6,5 +6,5 @@ pub clauses-preserved : goal.clauses-preserved
 clauses-preserved c =
     ready_with_next c.args.store.now c.args.trail.now c.clauses.watches c.attach.new.self
     (record { 0 = c.clauses.at }) c.requires.over
-    (omega (arith, c.clauses-test.true, c.len-at-end.ensures)) c.clauses.invariant
+    (omega (arith, c.clauses-test.true, c.len-at-end.ensures.len)) c.clauses.invariant
     c.in_ok-attach.ensures.ok
