@@ -29,7 +29,8 @@ use Rattle.conflict_learning.proofs.GivenLemmas.{ground_known}
 use Rattle.conflict_learning.proofs.LearnedLemmas.{conflict_false}
 use Rattle.assumption_engine.specs.Theory.{Meaning, MeansTheSame, IsSpentCheck}
 use Rattle.assumption_engine.specs.Engine.{AreTrue, AreAssumedFirst, IsModelOf, IsRight}
-use Rattle.assumption_engine.specs.Answer.{HasEnded, HasRoom, IsAnswer, IsBelow, IsCoreOf, IsModelOn}
+use Rattle.assumption_engine.specs.Answer.{HasEnded, HasRoom, IsAnswer, IsBelow, IsCoreOf}
+use Rattle.assumption_engine.specs.Answer.{IsModelOn}
 use Rattle.assumption_engine.specs.Answer.{IsSpentInside, IsTurn, IsGoing}
 use Rattle.assumption_engine.specs.declared.answer.Answer.{Answer}
 use Rattle.assumption_engine.specs.declared.answer.Answer.TheVariants.{Model, Core, Spent}
@@ -62,16 +63,17 @@ ground_closure clauses trail lit is of wrong level known has closed =
     by.here (sym (level_found trail.steps lit by.step by.found).0 ∙ level))
 
 -- where a clause is false at level 0, the clauses can't be met
-none_met : (clauses : List (List Lit)) (trail : Assigned) (at : ClauseRef) (lits : List Lit) → IsTrail trail → IsTrailOf trail.steps clauses
+none_met : (clauses : List (List Lit)) (trail : Assigned) (at : ClauseRef) (lits : List Lit)
+    → IsTrail trail → IsTrailOf trail.steps clauses
     → IsConflict clauses trail.steps at
     → slice_get clauses at.0 ≡ Some lits → greatest_level trail.steps lits ≡ 0
     → (values : List Bool) → Meets values clauses → ⊥
 none_met clauses trail at lits is of conflict named level values meets =
-          not_refuted values clauses [] meets (All-nil (IsTrueIn values))
-          (any_from (λ clause. All (λ lit. InClosure clauses [] (negation lit)) clause) clauses lits
-          (here_at clauses at.0 lits named)
-          (λ k d within. ground_closure clauses trail (get_or lits k d) is of (wrong k d within)
-          (all_ground trail.steps lits level k d within)))
+    not_refuted values clauses [] meets (All-nil (IsTrueIn values))
+    (any_from (λ clause. All (λ lit. InClosure clauses [] (negation lit)) clause) clauses lits
+    (here_at clauses at.0 lits named)
+    (λ k d within. ground_closure clauses trail (get_or lits k d) is of (wrong k d within)
+    (all_ground trail.steps lits level k d within)))
   where
     wrong : All (IsFalse trail.steps) lits
     wrong = conflict_false clauses trail.steps at lits conflict named

@@ -52,7 +52,8 @@ taught old mid new learned level above within first is second =
                 second.trail
                 ∙ ap (λ (t : Assigned). record t { steps = up_to learned.back t.steps }) first.trail
                 ∙ ap (λ (steps : List Step). record old.trail { steps = steps })
-                (back_twice learned.back level old.trail.steps (omega (arith, lower, first.present)));
+                (back_twice learned.back level old.trail.steps
+                (omega (arith, lower, first.present)));
             present = second.present;
             was_trail = first.was_trail;
             is_trail = second.is_trail;
@@ -70,7 +71,8 @@ taught old mid new learned level above within first is second =
                 subst (λ t. All (λ other. other ≢ learned.asserting → IsFalse t.steps other)
                 learned.clause) (sym second.trail) forces.others;
           };
-      unset = subst (λ t. value_of t.steps learned.asserting ≡ Unset) (sym second.trail) forces.unset;
+      unset =
+          subst (λ t. value_of t.steps learned.asserting ≡ Unset) (sym second.trail) forces.unset;
     }
   where
     high : 0 < present_level mid.trail.steps

@@ -25,7 +25,8 @@ use Rattle.clause_store.specs.Trail.{Assigned, IsTrail, RisesFrom, next_level, p
 use Rattle.clause_store.proofs.BackLemmas.{front_after_back}
 use Rattle.clause_store.proofs.EntailmentLemmas.{refuted_follows}
 use Rattle.clause_store.proofs.LiteralLemmas.{all_through, has_first, has_later}
-use Rattle.clause_store.proofs.lemmas.Units.HistoryLemmas.{histories_add, histories_compose, history_has_units}
+use Rattle.clause_store.proofs.lemmas.Units.HistoryLemmas.{histories_add, histories_compose}
+use Rattle.clause_store.proofs.lemmas.Units.HistoryLemmas.{history_has_units}
 use Rattle.clause_store.proofs.ReasonLemmas.{slice_get-seam}
 use Rattle.clause_store.proofs.TrailLemmas.{slice_get-append}
 use Rattle.clause_store.proofs.lemmas.Units.UnitLemmas.{units_among_fewer, units_split}
@@ -160,7 +161,8 @@ goes_on_then one two assumed first second third before mid after same early late
           ∙ ap (λ clauses. first.store ++ clauses) (sym together.added_is);
       counts =
           late.counts
-          ∙ ap (λ (it : Counted). record it { units = it.units ++ counted_clauses late.added }) early.counts
+          ∙ ap (λ (it : Counted). record it { units = it.units ++ counted_clauses late.added })
+          early.counts
           ∙ ap (λ units. record before { units = units })
           (append_assoc before.units (counted_clauses early.added) (counted_clauses late.added)
           ∙ ap (λ units. before.units ++ units) (sym together.counted_is));

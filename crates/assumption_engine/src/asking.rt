@@ -141,13 +141,7 @@ impl<T: Theory> Engine<T> {
 
     /// Whether some model makes all literals of `assume` true. At most `slice` clauses are counted.
     /// After want of memory the engine answers that alone.
-    pub fn ask(
-        &mut self,
-        alloc: Global,
-        assume: &[Lit],
-        budget: &mut Budget,
-        slice: u32,
-    ) -> Answer
+    pub fn ask(&mut self, alloc: Global, assume: &[Lit], budget: &mut Budget, slice: u32) -> Answer
         requires right { self.old.dead ≡ false → IsRight (T.meaning self.old.theory)
             (T.followed self.old.theory) self.old.state self.old.defined }
         requires over { All (IsOver self.old.state.trail.vars) assume.now }

@@ -137,9 +137,7 @@ impl<T: Theory> Engine<T> {
         {
             Check::Accept => Ok(Turn::Ended(Answer::Model)),
             Check::Clause => self.take_given(alloc),
-            Check::Spent { set, units } => {
-                Ok(Turn::Ended(Answer::SpentInside { set, units }))
-            }
+            Check::Spent { set, units } => { Ok(Turn::Ended(Answer::SpentInside { set, units })) }
             Check::NoMemory => Err(NoMemory),
         }
     }

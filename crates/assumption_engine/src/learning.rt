@@ -116,12 +116,7 @@ impl<T: Theory> Engine<T> {
     }
 
     /// Counts what was learned and puts it last.
-    fn count(
-        &mut self,
-        alloc: Global,
-        budget: &mut Budget,
-        stop: u32,
-    ) -> Result<Turn, NoMemory>
+    fn count(&mut self, alloc: Global, budget: &mut Budget, stop: u32) -> Result<Turn, NoMemory>
         requires right { IsRight (T.meaning self.old.theory) (T.followed self.old.theory)
             self.old.state self.old.defined }
         requires fixpoint { IsFixpoint self.old.state.store self.old.state.trail.steps }

@@ -15,7 +15,8 @@ returns-in_err-add-clause-counted g c =
     c.requires.fixpoint c.requires.learned c.requires.unset)
     (c.in_ok-count.ensures.ok
     ∙ ap (λ (lits : List Lit). record c.args.budget.now {
-      units = c.args.budget.now.units ++ lits ∷ [] }) c.as_slice.ensures)
+      units = c.args.budget.now.units ++ lits ∷ [];
+    }) c.as_slice.ensures)
 
 pub returns-clause-right : goal.returns-clause-right
 returns-clause-right g c =
@@ -42,7 +43,8 @@ returns-clause-on g c assumed =
     c.in_ok-add.ensures.trail
     (c.in_ok-count.ensures.ok
     ∙ ap (λ (lits : List Lit). record c.args.budget.now {
-      units = c.args.budget.now.units ++ lits ∷ [] }) c.as_slice.ensures)
+      units = c.args.budget.now.units ++ lits ∷ [];
+    }) c.as_slice.ensures)
 
 pub returns-clause-counted : goal.returns-clause-counted
 returns-clause-counted g c =
@@ -54,4 +56,5 @@ returns-clause-counted g c =
     c.requires.fixpoint c.requires.learned c.requires.unset)
     (c.in_ok-count.ensures.ok
     ∙ ap (λ (lits : List Lit). record c.args.budget.now {
-      units = c.args.budget.now.units ++ lits ∷ [] }) c.as_slice.ensures)
+      units = c.args.budget.now.units ++ lits ∷ [];
+    }) c.as_slice.ensures)
