@@ -1,5 +1,5 @@
 -- That the answers of an engine are right.
-use Rattle.std.proofs.Common.{◌≡◌, ◌≢◌, ℕ, ◌<◌, ◌≤◌, List, [], ◌∷◌, length, take, get_or, Option}
+use Rattle.std.proofs.Common.{◌≡◌, ◌≢◌, ℕ, List, [], ◌∷◌, length, take, get_or, Option}
 use Rattle.std.proofs.Common.{Some, None, refl, sym, ap, ◌∙◌, subst, inl, inr, arith}
 use Rattle.std.specs.Prelude.{All, Contains, slice_get, Bool}
 use Rattle.std.proofs.Math.Seq.{take-length}
@@ -29,15 +29,9 @@ use Rattle.conflict_learning.proofs.GivenLemmas.{ground_known}
 use Rattle.conflict_learning.proofs.LearnedLemmas.{conflict_false}
 use Rattle.assumption_engine.specs.Theory.{Meaning, MeansTheSame, IsSpentCheck}
 use Rattle.assumption_engine.specs.Engine.{AreTrue, AreAssumedFirst, IsModelOf, IsRight}
-use Rattle.assumption_engine.specs.Answer.{HasEnded, HasRoom, IsAnswer, IsBelow, IsCoreOf}
+use Rattle.assumption_engine.specs.Answer.{HasRoom, IsBelow, IsCoreOf}
 use Rattle.assumption_engine.specs.Answer.{IsModelOn}
-use Rattle.assumption_engine.specs.Answer.{IsSpentInside, IsTurn, IsGoing}
-use Rattle.assumption_engine.specs.declared.answer.Answer.{Answer}
-use Rattle.assumption_engine.specs.declared.answer.Answer.TheVariants.{Model, Core, Spent}
-use Rattle.assumption_engine.specs.declared.answer.Answer.TheVariants.{SpentInside, Paused}
-use Rattle.assumption_engine.specs.declared.answer.Answer.TheVariants.{NoMemory}
-use Rattle.assumption_engine.specs.declared.answer.Turn.{Turn}
-use Rattle.assumption_engine.specs.declared.answer.Turn.TheVariants.{Going, Ended}
+use Rattle.assumption_engine.specs.Answer.{IsSpentInside}
 use Rattle.assumption_engine.specs.declared.state.State.{State}
 use Rattle.assumption_engine.proofs.SameLemmas.{model_same}
 

@@ -16,9 +16,9 @@ use Rattle.clause_store.specs.declared.literal.Lit.{Lit}
 use Rattle.clause_store.specs.declared.step.Step.{Step}
 use Rattle.clause_store.specs.Clause.{HoldsIn, Meets}
 use Rattle.clause_store.specs.Counted.{Counted}
-use Rattle.clause_store.specs.Entailment.{AreUnits, IsUnit, Refutes, negations}
+use Rattle.clause_store.specs.Entailment.{AreUnits, IsUnit}
 use Rattle.clause_store.specs.History.{Added, given, counted, added_clauses, counted_clauses}
-use Rattle.clause_store.specs.History.{given_clauses, IsHistory, IsHistoryOf, IsNewWork}
+use Rattle.clause_store.specs.History.{given_clauses, IsHistory, IsNewWork}
 use Rattle.clause_store.specs.Laws.{AreMoreClauses}
 use Rattle.clause_store.specs.Standing.{AreFollowed, Followed}
 use Rattle.clause_store.specs.Trail.{Assigned, IsTrail, RisesFrom, next_level, present_level, up_to}
@@ -36,7 +36,7 @@ use Rattle.assumption_engine.specs.Theory.{Meaning, MeansTheSame}
 use Rattle.assumption_engine.specs.Engine.{AreAssumedFirst, AreTrue, GoesOn, HasCounted}
 use Rattle.assumption_engine.specs.Engine.{IsModelOf, IsRight}
 use Rattle.assumption_engine.specs.declared.state.State.{State}
-use Rattle.assumption_engine.proofs.SameLemmas.{model_same, same_itself}
+use Rattle.assumption_engine.proofs.SameLemmas.{model_same}
 
 -- ---- decisions
 

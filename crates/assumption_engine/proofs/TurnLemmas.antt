@@ -1,5 +1,5 @@
 -- What turns come to, and that there are only so many.
-use Rattle.std.proofs.Common.{◌≡◌, ◌≢◌, ℕ, ◌<◌, ◌≤◌, ◌+◌, ◌-◌, ◌*◌, ◌^◌, List, length, sym, ap, ◌∙◌}
+use Rattle.std.proofs.Common.{◌≡◌, ℕ, ◌<◌, ◌≤◌, ◌+◌, ◌-◌, ◌*◌, ◌^◌, List, length, sym, ap, ◌∙◌}
 use Rattle.std.proofs.Common.{subst, inl, inr, arith, ◌++◌, length-append}
 use Rattle.std.specs.Prelude.{All, Contains}
 use Rattle.std.proofs.Math.Nat.{mul-le-mul_right}

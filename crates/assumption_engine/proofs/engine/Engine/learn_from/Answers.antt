@@ -1,4 +1,4 @@
-use Rattle.std.proofs.Common.{[], sym, ap, subst, ◌∙◌, arith, refl}
+use Rattle.std.proofs.Common.{[], sym, subst, ◌∙◌, arith}
 use Rattle.propagator.proofs.ExtendLemmas.{same_level}
 use Rattle.assumption_engine.specs.Answer.{HasTaken, IsBelow, IsTurn}
 use Rattle.assumption_engine.specs.Engine.{HasCounted}

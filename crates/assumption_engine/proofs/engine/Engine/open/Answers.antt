@@ -1,4 +1,4 @@
-use Rattle.std.proofs.Common.{[], sym, ap, subst, arith}
+use Rattle.std.proofs.Common.{sym, ap, subst, arith}
 use Rattle.std.proofs.lemmas.List.Elements.{All-nil}
 use Rattle.std.specs.Prelude.{Contains}
 use Rattle.clause_store.specs.Clause.{Meets}

@@ -1,4 +1,4 @@
-use Rattle.std.proofs.Common.{[], refl}
+use Rattle.std.proofs.Common.{refl}
 use Rattle.std.specs.Prelude.{List}
 use Rattle.clause_store.specs.declared.literal.Lit.{Lit}
 use Rattle.assumption_engine.specs.Answer.{IsTurn}
