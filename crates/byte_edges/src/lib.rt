@@ -11,8 +11,6 @@ mod reading;
 mod schedule;
 mod std_edges;
 mod steady;
-#[cfg(test)]
-mod tests;
 mod writing;
 
 pub use edges::{Failed, Sink, Source};

@@ -35,7 +35,8 @@ range_last old lits =
 
 -- they are one part more
 pub cuts_push : (old lits : List Lit) (start : ℕ) (ends : List ℕ) → RiseTo (length old) start ends
-    → cuts (old ++ lits) start (ends ++ length (old ++ lits) ∷ []) ≡ cuts old start ends ++ lits ∷ []
+    → cuts (old ++ lits) start (ends ++ length (old ++ lits) ∷ []) ≡ cuts old start ends
+    ++ lits ∷ []
 cuts_push old lits start [] rise =
     ap (λ part. part ∷ [])
     (ap (λ from. slice_range (old ++ lits) from (length (old ++ lits))) rise ∙ range_last old lits)
@@ -47,7 +48,8 @@ cuts_push old lits start (end ∷ rest) rise =
 rise_push : (size more start : ℕ) (ends : List ℕ) → size ≤ more → RiseTo size start ends
     → RiseTo more start (ends ++ more ∷ [])
 rise_push size more start [] below rise = (omega (arith, rise, below), refl)
-rise_push size more start (end ∷ rest) below rise = (rise.0, rise_push size more end rest below rise.1)
+rise_push size more start (end ∷ rest) below rise =
+    (rise.0, rise_push size more end rest below rise.1)
 
 pub length-cuts : (lits : List Lit) (start : ℕ) (ends : List ℕ)
     → length (cuts lits start ends) ≡ length ends

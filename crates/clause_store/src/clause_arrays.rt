@@ -1,5 +1,5 @@
-// The literals of all clauses in one array, one clause behind the other, and in a second array where
-// each begins and where the last one ends. So the end of a clause is the beginning of the next.
+// The literals of all clauses stand in one array, one clause behind the other. A second array says
+// where each begins and where the last one ends: the end of a clause is the beginning of the next.
 ghost use Rattle.std.specs.Prelude.{◌≡◌, ◌<◌, ◌≤◌, ◌^◌, ◌+◌, [], ◌∷◌, ◌++◌, length, slice_get};
 ghost use Rattle.std.specs.Prelude.{Some, IfOk, OnOk, OnErr, slice_range};
 ghost use Rattle.clause_store.specs.Clause.{IsClause};

@@ -17,12 +17,6 @@ use Rattle.normal_program.specs.Clauses.{is_lit, has_lit, each_once, is_tautolog
 use Rattle.completion.specs.Filling.{coded}
 use Rattle.normal_program.proofs.lemmas.Base.CleanLemmas.{kept_from, once_from}
 
--- a literal is sought among codes
-pub has_lit-coded : (codes : List ℕ) (lit : Lit)
-    → has_lit (map coded codes) lit ≡ list_any (eqb lit.0) codes
-has_lit-coded [] lit = refl
-has_lit-coded (code ∷ codes) lit = ap (λ b. eqb lit.0 code || b) (has_lit-coded codes lit)
-
 or_none : (a b : Bool) → (a || b) ≡ false → (a ≡ false) × (b ≡ false)
 or_none true b none = absurd (true≢false none)
 or_none false b none = (refl, none)
@@ -144,84 +138,6 @@ each_once-push (x ∷ xs) lit = by (has_lit (each_once xs) lit) refl (each_once-
             else (x ∷ filter (λ y. not (is_lit x y)) (each_once xs)) ++ lit ∷ [])
             (still_none (λ y. not (is_lit x y)) lit (each_once xs) e))
 
--- a code that is put among others, as its literal is put among theirs
-pub codes-insert : (keys new : List ℕ) (xs : List Lit) (lit : Lit) → map coded keys ≡ each_once xs
-    → new ≡ (if list_any (eqb lit.0) keys then keys else keys ++ lit.0 ∷ [])
-    → map coded new ≡ each_once (xs ++ lit ∷ [])
-codes-insert keys new xs lit same inserted = by (list_any (eqb lit.0) keys) refl
-  where
-    found : has_lit (each_once xs) lit ≡ list_any (eqb lit.0) keys
-    found = ap (λ l. has_lit l lit) (sym same) ∙ has_lit-coded keys lit
-
-    by : (b : Bool) → list_any (eqb lit.0) keys ≡ b → map coded new ≡ each_once (xs ++ lit ∷ [])
-    by true e =
-        ap (map coded) (inserted ∙ ap (λ b. if b then keys else keys ++ lit.0 ∷ []) e) ∙ same
-        ∙ sym
-        (each_once-push xs lit
-        ∙ ap (λ b. if b then each_once xs else each_once xs ++ lit ∷ []) (found ∙ e))
-    by false e =
-        ap (map coded) (inserted ∙ ap (λ b. if b then keys else keys ++ lit.0 ∷ []) e)
-        ∙ map_push coded keys lit.0 ∙ ap (λ l. l ++ lit ∷ []) same
-        ∙ sym
-        (each_once-push xs lit
-        ∙ ap (λ b. if b then each_once xs else each_once xs ++ lit ∷ []) (found ∙ e))
-
--- items that differ go on differing in a filter
-filter_differ : (p : Lit → Bool) (xs : List Lit) → AllPairs (λ one two. one ≢ two) xs
-    → AllPairs (λ one two. one ≢ two) (filter p xs)
-filter_differ p [] differ = λ i j d less within. absurd (omega (arith, within))
-filter_differ p (x ∷ xs) differ =
-    by (p x) refl
-    (filter_differ p xs
-    (λ i j d less within. differ (suc i) (suc j) d (omega (arith, less))
-    (omega (arith, within))))
-  where
-    by : (b : Bool) → p x ≡ b → AllPairs (λ one two. one ≢ two) (filter p xs)
-        → AllPairs (λ one two. one ≢ two) (filter p (x ∷ xs))
-    by false e rest =
-        subst (λ b. AllPairs (λ one two. one ≢ two) (cond b (x ∷ filter p xs) (filter p xs)))
-        (sym e) rest
-    by true e rest =
-        subst (λ b. AllPairs (λ one two. one ≢ two) (cond b (x ∷ filter p xs) (filter p xs)))
-        (sym e) front
-      where
-        front : AllPairs (λ one two. one ≢ two) (x ∷ filter p xs)
-        front i j d less within = at i j less within
-          where
-            at : (i j : ℕ) → i < j → j < length (x ∷ filter p xs)
-                → get_or (x ∷ filter p xs) i d ≢ get_or (x ∷ filter p xs) j d
-            at i zero less within = absurd (omega (arith, less))
-            at zero (suc j) less within = λ same.
-                let there =
-                kept_from p xs (get_or (filter p xs) j d)
-                (Contains-get_or (filter p xs) j d (omega (arith, within))) in
-                differ 0 (suc there.0) (get_or (filter p xs) j d) (omega arith)
-                (omega (arith, there.1)) (same ∙ sym there.2)
-            at (suc i) (suc j) less within =
-                rest i j d (omega (arith, less)) (omega (arith, within))
-
--- literals kept once differ
-once_differ : (xs : List Lit) → AllPairs (λ one two. one ≢ two) (each_once xs)
-once_differ [] = λ i j d less within. absurd (omega (arith, within))
-once_differ (x ∷ xs) = λ i j d less within. by d i j less within (once_differ_rest (once_differ xs))
-  where
-    once_differ_rest : AllPairs (λ one two. one ≢ two) (each_once xs)
-        → AllPairs (λ one two. one ≢ two) (filter (λ y. not (is_lit x y)) (each_once xs))
-    once_differ_rest differ = filter_differ (λ y. not (is_lit x y)) (each_once xs) differ
-
-    by : (d : Lit) (i j : ℕ) → i < j
-        → j < length (x ∷ filter (λ y. not (is_lit x y)) (each_once xs))
-        → AllPairs (λ one two. one ≢ two) (filter (λ y. not (is_lit x y)) (each_once xs))
-        → get_or (x ∷ filter (λ y. not (is_lit x y)) (each_once xs)) i d
-        ≢ get_or (x ∷ filter (λ y. not (is_lit x y)) (each_once xs)) j d
-    by d i zero less within rest = absurd (omega (arith, less))
-    by d zero (suc j) less within rest = λ same.
-        let passes =
-        filter_passes (λ y. not (is_lit x y)) (each_once xs) j d (omega (arith, within)) in
-        both_ways (is_lit x (get_or (filter (λ y. not (is_lit x y)) (each_once xs)) j d))
-        (not-true _ passes) (eq-eqb x.0 _ (ap (λ (lit : Lit). lit.0) same))
-    by d (suc i) (suc j) less within rest = rest i j d (omega (arith, less)) (omega (arith, within))
-
 -- literals of one variable are the same or opposite
 same_or_opposite : (one two : Lit) → variable one ≡ variable two
     → (one ≡ two) ⊎ (two ≡ negation one)
@@ -241,27 +157,23 @@ same_or_opposite one two same =
         lit_of_code two (negation one) (omega (arith, even, up, same, ne))
 
 -- a literal that stands in a clause is found
-found_there : (clause : List Lit) (k : ℕ) (d lit : Lit) → k < length clause
+pub found_there : (clause : List Lit) (k : ℕ) (d lit : Lit) → k < length clause
     → lit ≡ get_or clause k d → has_lit clause lit ≡ true
 found_there clause k d lit within same =
     list_any_at (is_lit lit) clause k d within
     (eq-eqb lit.0 (get_or clause k d).0 (ap (λ (one : Lit). one.0) same))
 
--- a clause with each literal once that is no tautology is one that a store takes
-pub IsClause-once : (xs : List Lit) → All (λ lit. 1 ≤ variable lit) xs
-    → is_tautology (each_once xs) ≡ false → IsClause (each_once xs)
-IsClause-once xs vars none = record {
+-- a clause of literals that differ, without opposites, is one that a store takes
+pub IsClause-differ : (xs : List Lit) → AllPairs (λ one two. one ≢ two) xs
+    → All (λ lit. 1 ≤ variable lit) xs → is_tautology xs ≡ false → IsClause xs
+IsClause-differ xs differ vars none = record {
   once = λ i j d less within same.
-      ⊎_elim (λ e. once_differ xs i j d less within e)
-      (λ opposite. both_ways (is_tautology (each_once xs)) none
-      (list_any_at (λ lit. has_lit (each_once xs) (negation lit)) (each_once xs) i d
-      (omega (arith, less, within))
-      (found_there (each_once xs) j d (negation (get_or (each_once xs) i d)) within
-      (sym opposite))))
-      (same_or_opposite (get_or (each_once xs) i d) (get_or (each_once xs) j d) same);
-  no_zero =
-      λ k d within. All-contains (λ lit. 1 ≤ variable lit) xs (get_or (each_once xs) k d) vars
-      (once_from xs (get_or (each_once xs) k d) (Contains-get_or (each_once xs) k d within));
+      ⊎_elim (λ e. differ i j d less within e)
+      (λ opposite. both_ways (is_tautology xs) none
+      (list_any_at (λ lit. has_lit xs (negation lit)) xs i d (omega (arith, less, within))
+      (found_there xs j d (negation (get_or xs i d)) within (sym opposite))))
+      (same_or_opposite (get_or xs i d) (get_or xs j d) same);
+  no_zero = vars;
 }
 
 -- one clause, cleaned

@@ -109,29 +109,12 @@ pub mapped_apart : {X : Type 0} (f : X → List Lit) (xs ys : List X)
     → map f (xs ++ ys) ≡ map f xs ++ map f ys
 mapped_apart f xs ys = map-append f xs ys
 
--- all literals of a clause of a variable and literals have variables
-pub vars-positive : (var : ℕ) (atoms : List ℕ) → 1 ≤ var → All IsVar atoms
-    → All (λ lit. 1 ≤ variable lit) (negative var ∷ map positive atoms)
-vars-positive var atoms first all =
-    All-cons (λ lit. 1 ≤ variable lit) (negative var) (map positive atoms)
-    (omega (arith, first, variable-negative var))
-    (All-map (λ lit. 1 ≤ variable lit) positive atoms
-    (λ k d h. omega (arith, (all k d h).first, variable-positive (get_or atoms k d))))
-
-pub vars-negations : (var : ℕ) (parts : List Part) → 1 ≤ var
-    → All (λ part. IsVar part.lit.atom) parts
-    → All (λ lit. 1 ≤ variable lit) (positive var ∷ map negation (literals_of parts))
-vars-negations var parts first all =
-    All-cons (λ lit. 1 ≤ variable lit) (positive var) (map negation (literals_of parts))
-    (omega (arith, first, variable-positive var))
-    (All-map (λ lit. 1 ≤ variable lit) negation (literals_of parts)
-    (All-map (λ lit. 1 ≤ variable (negation lit)) (λ (part : Part). literal_of part.lit) parts
-    (λ k d h. omega (
-      arith,
-      (all k d h).first,
-      variable-negation (literal_of (get_or parts k d).lit),
-      variable-literal_of (get_or parts k d).lit,
-    ))))
+-- the literals of a body have variables
+pub vars-literals : (parts : List Part) → All (λ part. IsVar part.lit.atom) parts
+    → All (λ lit. 1 ≤ variable lit) (literals_of parts)
+vars-literals parts all =
+    All-map (λ lit. 1 ≤ variable lit) (λ (part : Part). literal_of part.lit) parts
+    (λ k d h. omega (arith, (all k d h).first, variable-literal_of (get_or parts k d).lit))
 
 -- the clauses that one item makes
 pub flat_map-one : {X : Type 0} (f : X → List (List Lit)) (x : X) (clauses : List (List Lit))

@@ -1,3 +1,9 @@
 pub mod AddLemmas
+pub mod DraftLemmas
+pub mod AddsLemmas
 pub mod GainLemmas
 pub mod RowLemmas
+pub mod InnerLemmas
+pub mod PartLemmas
+pub mod SmallerLemmas
+pub mod InnerOverLemmas

@@ -1,15 +1,19 @@
 -- The rows in which the bodies of rules are gathered, and that they make the support clauses.
-use Rattle.std.proofs.Common.{◌≡◌, ◌≤◌, ◌<◌, ◌+◌, ℕ, zero, suc, Bool, true, false, cond, eqb, List}
+use Rattle.std.proofs.Common.{◌≡◌, ◌≤◌, ◌<◌, ◌+◌, ◌-◌, ℕ, zero, suc, Bool, true, false, cond, eqb}
+use Rattle.std.proofs.Common.{List}
 use Rattle.std.proofs.Common.{[], ◌∷◌, ◌++◌, length, length-set, get_or, get_or-set_same}
 use Rattle.std.proofs.Common.{get_or-set_other, slice_set, map, filter, flat_map, replicate, All}
 use Rattle.std.proofs.Common.{refl, sym, ap, ◌∙◌, arith, if◌then◌else◌, append_assoc, append-nil}
 use Rattle.std.proofs.Common.{⊎_elim, ◌||◌, true≢false}
 use Rattle.std.proofs.lemmas.Bool.{eq-eqb, ne_eqb, cases_eq, eqb-true, both_ways}
 use Rattle.std.proofs.lemmas.List.{map-append, length-replicate, get_or-replicate}
+use Rattle.std.proofs.lemmas.List.{get_or-map, length-map}
 use Rattle.std.proofs.lemmas.List.Elements.{filter-append, All-append, All-nil, All-map}
 use Rattle.std.proofs.lemmas.List.Elements.{Contains-push}
 use Rattle.std.proofs.lemmas.List.Folds.{list_any_at}
 use Rattle.std.proofs.lemmas.List.Concat.{flat_map-append}
+use Rattle.std.specs.declared.vec.Vec.{Vec}
+use Rattle.std.specs.declared.alloc.Global.{Global}
 use Rattle.clause_store.specs.declared.literal.Lit.{Lit}
 use Rattle.clause_store.specs.Clause.{variable}
 use Rattle.normal_program.specs.declared.normal.NormalRule.{NormalRule}
@@ -18,7 +22,7 @@ use Rattle.normal_program.specs.Normal.{body_var}
 use Rattle.normal_program.specs.Clauses.{positive, negative, is_lit, has_lit, has_atom, each_once}
 use Rattle.normal_program.specs.Clauses.{is_tautology, cleaned, support_clause, numbers_from}
 use Rattle.completion.specs.Filling.{supports_of}
-use Rattle.completion.specs.Rows.{AreSupports, NotesAll}
+use Rattle.completion.specs.Rows.{rows_of, AreSupports, NotesAll}
 use Rattle.completion.proofs.AddLemmas.{each_once-push, cleaned-one}
 use Rattle.normal_program.proofs.lemmas.Base.CleanLemmas.{once_has}
 use Rattle.normal_program.proofs.lemmas.Base.TruthLemmas.{variable-positive}
@@ -278,3 +282,28 @@ get_or-numbers first zero k d within = absurd (omega (arith, within))
 get_or-numbers first (suc count) zero d within = omega arith
 get_or-numbers first (suc count) (suc k) d within =
     omega (arith, get_or-numbers (first + 1) count k d (omega (arith, within)))
+
+-- an atom stands at its place among the numbers from 1 on
+pub atom_at : (count atom : ℕ) → 1 ≤ atom → atom ≤ count
+    → (atom - 1 < length (numbers_from 1 count))
+    × (atom ≡ get_or (numbers_from 1 count) (atom - 1) atom)
+atom_at count atom first last = (
+  omega (arith, length-numbers 1 count, first, last),
+  omega (arith, get_or-numbers 1 count (atom - 1) atom (omega (arith, first, last)), first),
+)
+
+-- what is read at a place of the rows
+pub row_read : (normal : Normal) (rows : Vec (Vec Lit Global) Global) (atom : ℕ)
+    (row : Vec Lit Global) → AreSupports normal normal.rules (rows_of rows) → atom ≤ normal.atoms
+    → row ≡ get_or rows.items atom row → row.items ≡ supports_of normal normal.rules atom
+row_read normal rows atom row supports last here =
+    let inside : atom < length rows.items =
+    omega (
+      arith,
+      supports.count,
+      length-map rows.items (λ (one : Vec Lit Global). one.items),
+      last,
+    ) in
+    ap (λ (one : Vec Lit Global). one.items) here
+    ∙ sym (get_or-map (λ (one : Vec Lit Global). one.items) rows.items atom row [] inside)
+    ∙ supports.each atom last

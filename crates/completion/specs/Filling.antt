@@ -1,5 +1,6 @@
 -- How a store is filled. Only `GainsFirst` stands in a public clause.
 use Rattle.std.specs.Prelude.{◌≡◌, ◌≤◌, ◌<◌, ◌^◌, ℕ, nat_eq, List, ◌++◌, map, filter, flat_map}
+use Rattle.std.specs.Prelude.{Result, MatchResult}
 use Rattle.clause_store.specs.declared.literal.Lit.{Lit}
 use Rattle.normal_program.specs.declared.normal.NormalRule.{NormalRule}
 use Rattle.normal_program.specs.declared.normal.Normal.{Normal}
@@ -16,6 +17,12 @@ pub record GainsFirst (old new clauses : List (List Lit)) : Type 0 where
   pub rest : List (List Lit)
   pub all : clauses ≡ done ++ rest
   pub gained : new ≡ old ++ done
+
+-- a call adds these clauses, or after want of memory the first of them
+abbrev pub Adds : {T E : Type 0} → Result T E → List (List Lit) → List (List Lit) → List (List Lit)
+    → Type 0
+Adds result old new clauses =
+    MatchResult result (λ _. Gains old new clauses) (λ _. GainsFirst old new clauses)
 
 -- the literal of a code
 abbrev pub coded : ℕ → Lit

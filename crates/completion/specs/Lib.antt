@@ -1,2 +1,4 @@
 pub mod Filling
+pub mod Drafts
 pub mod Rows
+pub mod Within

@@ -1,102 +1,122 @@
 // The clauses of conjunctive bodies.
-ghost use Rattle.std.specs.Prelude.{◌≡◌, [], ◌∷◌, map, flat_map, All, IfOk, OnOk, OnErr};
-ghost use Rattle.clause_store.specs.Clause.{negation};
+ghost use Rattle.std.specs.Prelude.{◌≡◌, ◌≤◌, [], ◌∷◌, map, flat_map, All, OnOk};
+ghost use Rattle.std.specs.Prelude.{if◌then◌else◌};
+ghost use Rattle.clause_store.specs.Clause.{variable, negation};
 ghost use Rattle.normal_program.specs.Body.{is_conjunctive};
-ghost use Rattle.normal_program.specs.Clauses.{positive, negative, literal_of, literals_of};
+ghost use Rattle.normal_program.specs.Clauses.{positive, negative, literals_of};
 ghost use Rattle.normal_program.specs.Clauses.{all_clauses, body_clauses, numbered_bodies, cleaned};
 ghost use Rattle.normal_program.specs.Range.{IsInRange};
-ghost use Rattle.completion.specs.Filling.{Gains, GainsFirst, IsVar};
+ghost use Rattle.completion.specs.Filling.{Adds, IsVar};
 
-use crate::clean_clauses::add_clause;
+use crate::draft::Draft;
+use crate::short_clauses::add_two;
 use clause_store::{Lit, NoMemory, Store, Var};
-use ground_program::AtomLit;
-use normal_program::{BodyOf, Normal, Part};
+use normal_program::{BodyOf, Normal, Part, literal_of};
 use std::alloc::Global;
 
 /// Adds the clauses of all conjunctive bodies.
-pub fn add_bodies(alloc: Global, normal: &Normal, store: &mut Store) -> Result<(), NoMemory>
+pub fn add_bodies(
+    alloc: Global,
+    normal: &Normal,
+    draft: &mut Draft,
+    store: &mut Store,
+) -> Result<(), NoMemory>
     requires { IsInRange normal.now }
-    ensures ok { OnOk result (Gains store.old store.new
-        (cleaned (flat_map (body_clauses normal.now) (numbered_bodies normal.now)))) }
-    ensures err { OnErr result (GainsFirst store.old store.new
-        (cleaned (flat_map (body_clauses normal.now) (numbered_bodies normal.now)))) }
+    ensures { Adds result store.old store.new
+        (cleaned (flat_map (body_clauses normal.now) (numbered_bodies normal.now))) }
 {
+    let mut lits = Vec::new(alloc);
     for (number, body) in normal.bodies.as_slice().iter().enumerate() {
-        if asks_for_all(body) {
-            let var = Var(normal.atoms + 1 + number as u32);
-            define(alloc, store, var, body.parts.as_slice())?;
-        }
+        let var = Var(normal.atoms + 1 + number as u32);
+        add_body(alloc, draft, store, &mut lits, var, body)?;
     }
     Ok(())
 }
 
-// Whether a body is conjunctive.
-fn asks_for_all(body: &BodyOf) -> bool
-    ensures { result ≡ is_conjunctive body.now }
+// The clauses of a body, if it is conjunctive. The literals are made in `lits`.
+fn add_body(
+    alloc: Global,
+    draft: &mut Draft,
+    store: &mut Store,
+    lits: &mut Vec<Lit>,
+    var: Var,
+    body: &BodyOf,
+) -> Result<(), NoMemory>
+    requires var { IsVar var.0 }
+    requires parts { All (λ part. IsVar part.lit.atom) body.now.parts }
+    ensures { Adds result store.old store.new (cleaned
+        (if is_conjunctive body.now then all_clauses var.0 (literals_of body.now.parts) else [])) }
 {
-    let mut left = u64::from(body.bound);
-    for part in body.parts.as_slice() {
-        if part.weight == 0 || part.weight > left {
-            return false;
-        }
-        left -= part.weight;
+    if !body.is_conjunctive() {
+        return Ok(());
     }
-    left == 0
+    read_literals(lits, body.parts.as_slice())?;
+    define(alloc, draft, store, var, lits.as_slice())
 }
 
-// The variable is true exactly where all literals are.
-fn define(alloc: Global, store: &mut Store, var: Var, parts: &[Part]) -> Result<(), NoMemory>
-    requires var { IsVar var.0 }
-    requires parts { All (λ part. IsVar part.lit.atom) parts.now }
-    ensures ok { OnOk result
-        (Gains store.old store.new (cleaned (all_clauses var.0 (literals_of parts.now)))) }
-    ensures err { OnErr result
-        (GainsFirst store.old store.new (cleaned (all_clauses var.0 (literals_of parts.now)))) }
+// Makes the literals of a body.
+fn read_literals(lits: &mut Vec<Lit>, parts: &[Part]) -> Result<(), NoMemory>
+    requires { All (λ part. IsVar part.lit.atom) parts.now }
+    ensures { OnOk result (lits.new.items ≡ literals_of parts.now) }
 {
-    imply_each(alloc, store, var, parts)?;
-    let clause = all_or_false(alloc, var, parts)?;
-    add_clause(alloc, store, clause.as_slice())
+    lits.clear();
+    for part in parts {
+        lits.push(literal_of(part.lit))?;
+    }
+    Ok(())
+}
+
+/// The variable is true exactly where all literals are.
+pub fn define(
+    alloc: Global,
+    draft: &mut Draft,
+    store: &mut Store,
+    var: Var,
+    lits: &[Lit],
+) -> Result<(), NoMemory>
+    requires var { IsVar var.0 }
+    requires lits { All (λ lit. 1 ≤ variable lit) lits.now }
+    ensures { Adds result store.old store.new (cleaned (all_clauses var.0 lits.now)) }
+{
+    imply_each(alloc, draft, store, var, lits)?;
+    all_or_false(alloc, draft, store, var, lits)
 }
 
 // Where the variable is true, so is each literal.
-fn imply_each(alloc: Global, store: &mut Store, var: Var, parts: &[Part]) -> Result<(), NoMemory>
+fn imply_each(
+    alloc: Global,
+    draft: &mut Draft,
+    store: &mut Store,
+    var: Var,
+    lits: &[Lit],
+) -> Result<(), NoMemory>
     requires var { IsVar var.0 }
-    requires parts { All (λ part. IsVar part.lit.atom) parts.now }
-    ensures ok { OnOk result (Gains store.old store.new
-        (cleaned (map (λ lit. negative var.0 ∷ lit ∷ []) (literals_of parts.now)))) }
-    ensures err { OnErr result (GainsFirst store.old store.new
-        (cleaned (map (λ lit. negative var.0 ∷ lit ∷ []) (literals_of parts.now)))) }
+    requires lits { All (λ lit. 1 ≤ variable lit) lits.now }
+    ensures { Adds result store.old store.new
+        (cleaned (map (λ lit. negative var.0 ∷ lit ∷ []) lits.now)) }
 {
-    for part in parts {
-        add_clause(alloc, store, &[var.negative(), literal(&part.lit)])?;
+    for lit in lits {
+        add_two(alloc, draft, store, var.negative(), *lit)?;
     }
     Ok(())
 }
 
 // Where all literals are true, so is the variable.
-fn all_or_false(alloc: Global, var: Var, parts: &[Part]) -> Result<Vec<Lit>, NoMemory>
+fn all_or_false(
+    alloc: Global,
+    draft: &mut Draft,
+    store: &mut Store,
+    var: Var,
+    lits: &[Lit],
+) -> Result<(), NoMemory>
     requires var { IsVar var.0 }
-    requires parts { All (λ part. IsVar part.lit.atom) parts.now }
-    ensures { IfOk result
-        (λ clause. clause.items ≡ positive var.0 ∷ map negation (literals_of parts.now)) }
+    requires lits { All (λ lit. 1 ≤ variable lit) lits.now }
+    ensures { Adds result store.old store.new
+        (cleaned ((positive var.0 ∷ map negation lits.now) ∷ [])) }
 {
-    let mut clause = Vec::new(alloc);
-    clause.push(var.positive())?;
-    for part in parts {
-        clause.push(literal(&part.lit).negated())?;
+    draft.start(var.positive())?;
+    for lit in lits {
+        draft.push(lit.negated())?;
     }
-    Ok(clause)
-}
-
-// The literal of a clause for a literal of a body.
-fn literal(lit: &AtomLit) -> Lit
-    requires { IsVar lit.now.atom }
-    ensures { result ≡ literal_of lit.now }
-{
-    let var = Var(lit.atom);
-    if lit.negated {
-        var.negative()
-    } else {
-        var.positive()
-    }
+    draft.add_to(alloc, store)
 }

@@ -9,10 +9,12 @@ ghost use Rattle.normal_program.specs.Clauses.{compute_clauses, cleaned, AreEnta
 ghost use Rattle.normal_program.specs.Models.{MakeModels};
 ghost use Rattle.normal_program.specs.Limit.{IsNormal};
 ghost use Rattle.normal_program.specs.Range.{IsInRange};
-ghost use Rattle.completion.specs.Filling.{Gains, GainsFirst};
+ghost use Rattle.completion.specs.Filling.{Adds, GainsFirst};
 
 use crate::body_clauses::add_bodies;
-use crate::rule_clauses::{add_false, add_rules, add_true};
+use crate::draft::Draft;
+use crate::rule_clauses::add_rules;
+use crate::short_clauses::{add_false, add_true};
 use crate::support_clauses::add_supports;
 use clause_store::{NoMemory, Store};
 use normal_program::Normal;
@@ -35,28 +37,67 @@ pub fn complete(alloc: Global, normal: &Normal, store: &mut Store) -> Result<(),
     ensures entailed { AreEntailed normal.now }
     ensures models { MakeModels normal.now }
 {
-    complete_whole(alloc, normal, store)
+    let mut draft = Draft::open(alloc);
+    complete_whole(alloc, normal, &mut draft, store)
 }
 
 // All base clauses.
-fn complete_whole(alloc: Global, normal: &Normal, store: &mut Store) -> Result<(), NoMemory>
+fn complete_whole(
+    alloc: Global,
+    normal: &Normal,
+    draft: &mut Draft,
+    store: &mut Store,
+) -> Result<(), NoMemory>
     requires { IsInRange normal.now }
-    ensures ok { OnOk result (Gains store.old store.new (base_clauses normal.now)) }
-    ensures err { OnErr result (GainsFirst store.old store.new (base_clauses normal.now)) }
+    ensures { Adds result store.old store.new (base_clauses normal.now) }
 {
-    add_bodies(alloc, normal, store)?;
-    add_rules(alloc, normal, store)?;
-    add_supports(alloc, normal, store)?;
-    add_compute(alloc, normal, store)
+    add_program(alloc, normal, draft, store)?;
+    add_compute(alloc, normal, draft, store)
+}
+
+// The clauses of bodies, of rules and of the support of atoms.
+fn add_program(
+    alloc: Global,
+    normal: &Normal,
+    draft: &mut Draft,
+    store: &mut Store,
+) -> Result<(), NoMemory>
+    requires { IsInRange normal.now }
+    ensures { Adds result store.old store.new
+        (cleaned (flat_map (body_clauses normal.now) (numbered_bodies normal.now)
+        ++ flat_map (rule_clauses normal.now) normal.now.rules
+        ++ map (support_clause normal.now) (atoms_of_normal normal.now))) }
+{
+    add_bodies_and_rules(alloc, normal, draft, store)?;
+    add_supports(alloc, normal, draft, store)
+}
+
+// The clauses of bodies and of rules.
+fn add_bodies_and_rules(
+    alloc: Global,
+    normal: &Normal,
+    draft: &mut Draft,
+    store: &mut Store,
+) -> Result<(), NoMemory>
+    requires { IsInRange normal.now }
+    ensures { Adds result store.old store.new
+        (cleaned (flat_map (body_clauses normal.now) (numbered_bodies normal.now)
+        ++ flat_map (rule_clauses normal.now) normal.now.rules)) }
+{
+    add_bodies(alloc, normal, draft, store)?;
+    add_rules(alloc, normal, draft, store)
 }
 
 // The clauses of the compute statement.
-fn add_compute(alloc: Global, normal: &Normal, store: &mut Store) -> Result<(), NoMemory>
+fn add_compute(
+    alloc: Global,
+    normal: &Normal,
+    draft: &mut Draft,
+    store: &mut Store,
+) -> Result<(), NoMemory>
     requires { IsInRange normal.now }
-    ensures ok { OnOk result (Gains store.old store.new (cleaned (compute_clauses normal.now))) }
-    ensures err { OnErr result
-        (GainsFirst store.old store.new (cleaned (compute_clauses normal.now))) }
+    ensures { Adds result store.old store.new (cleaned (compute_clauses normal.now)) }
 {
-    add_true(alloc, store, normal.must.as_slice())?;
-    add_false(alloc, store, normal.must_not.as_slice())
+    add_true(alloc, draft, store, normal.must.as_slice())?;
+    add_false(alloc, draft, store, normal.must_not.as_slice())
 }

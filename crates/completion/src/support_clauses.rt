@@ -1,45 +1,53 @@
 // The support of atoms: where an atom is true, the body of some rule for it is.
 ghost use Rattle.std.specs.Prelude.{◌≡◌, ◌≤◌, ◌<◌, ◌+◌, [], ◌∷◌, ◌++◌, ℕ, List, length, map};
-ghost use Rattle.std.specs.Prelude.{replicate, slice_set, slice_index_or, All, IfOk, OnOk, OnErr};
+ghost use Rattle.std.specs.Prelude.{replicate, slice_set, slice_index_or, All, IfOk, OnOk};
 ghost use Rattle.clause_store.specs.Clause.{variable};
 ghost use Rattle.normal_program.specs.Clauses.{positive, negative, support_clause, atoms_of_normal};
 ghost use Rattle.normal_program.specs.Clauses.{cleaned};
 ghost use Rattle.normal_program.specs.Range.{IsInRange};
-ghost use Rattle.completion.specs.Filling.{Gains, GainsFirst, IsVar};
+ghost use Rattle.completion.specs.Filling.{Adds, IsVar};
 ghost use Rattle.completion.specs.Rows.{rows_of, AreSupports, NotesAll};
 
-use crate::clean_clauses::add_clause;
+use crate::draft::Draft;
 use clause_store::{Lit, NoMemory, Store, Var};
 use normal_program::{Normal, NormalRule};
 use std::alloc::Global;
 
 /// Adds the support clause of each atom.
-pub fn add_supports(alloc: Global, normal: &Normal, store: &mut Store) -> Result<(), NoMemory>
+pub fn add_supports(
+    alloc: Global,
+    normal: &Normal,
+    draft: &mut Draft,
+    store: &mut Store,
+) -> Result<(), NoMemory>
     requires { IsInRange normal.now }
-    ensures ok { OnOk result (Gains store.old store.new
-        (cleaned (map (support_clause normal.now) (atoms_of_normal normal.now)))) }
-    ensures err { OnErr result (GainsFirst store.old store.new
-        (cleaned (map (support_clause normal.now) (atoms_of_normal normal.now)))) }
+    ensures { Adds result store.old store.new
+        (cleaned (map (support_clause normal.now) (atoms_of_normal normal.now))) }
 {
     let rows = gather(alloc, normal)?;
     for atom in 1..normal.atoms + 1 {
-        add_support(alloc, store, atom, rows[atom as usize].as_slice())?;
+        add_support(alloc, draft, store, atom, rows[atom as usize].as_slice())?;
     }
     Ok(())
 }
 
 // The clause of an atom and the bodies of its rules.
-fn add_support(alloc: Global, store: &mut Store, atom: u32, bodies: &[Lit]) -> Result<(), NoMemory>
+fn add_support(
+    alloc: Global,
+    draft: &mut Draft,
+    store: &mut Store,
+    atom: u32,
+    bodies: &[Lit],
+) -> Result<(), NoMemory>
     requires atom { IsVar atom }
     requires bodies { All (λ lit. 1 ≤ variable lit) bodies.now }
-    ensures ok { OnOk result
-        (Gains store.old store.new (cleaned ((negative atom ∷ bodies.now) ∷ []))) }
-    ensures err { OnErr result (store.new ≡ store.old) }
+    ensures { Adds result store.old store.new (cleaned ((negative atom ∷ bodies.now) ∷ [])) }
 {
-    let mut clause = Vec::new(alloc);
-    clause.push(Var(atom).negative())?;
-    clause.extend_from_slice(bodies)?;
-    add_clause(alloc, store, clause.as_slice())
+    draft.start(Var(atom).negative())?;
+    for body in bodies {
+        draft.push(*body)?;
+    }
+    draft.add_to(alloc, store)
 }
 
 // For each atom the bodies of its rules, in the order of the rules.

@@ -6,7 +6,7 @@ use Rattle.ground_program.specs.declared.program.Named.{Named}
 use Rattle.ground_program.specs.declared.program.Weighted.{Weighted}
 use Rattle.ground_program.specs.declared.program.Program.{Program}
 use Rattle.ground_program.specs.Program.{IsProgram, atoms_of, atoms_of_rule, greatest}
-use Rattle.least_model.proofs.ListLemmas.{All-flat_map, All-left}
+use Rattle.item_list.proofs.ListLemmas.{All-flat_map, All-left}
 
 -- no number of a list is above its greatest
 all-le-greatest : (numbers : List ℕ) → All (λ number. number ≤ greatest numbers) numbers

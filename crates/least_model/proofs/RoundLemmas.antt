@@ -15,7 +15,7 @@ use Rattle.least_model.specs.Rounds.{Grows, IsEmptySet, Suits, TriesAll, TriesRu
 use Rattle.least_model.proofs.BodyLemmas.{HasPart}
 use Rattle.least_model.proofs.CandidateLemmas.{only_candidate}
 use Rattle.least_model.proofs.HeadLemmas.{heads_have_positions}
-use Rattle.least_model.proofs.ListLemmas.{All-left, All-right}
+use Rattle.item_list.proofs.ListLemmas.{All-left, All-right}
 use Rattle.least_model.proofs.RuleLemmas.{IsKnown, head_first, heads_from, keeps_from}
 use Rattle.least_model.proofs.SetLemmas.{added_is_part, missing-added}
 

@@ -20,6 +20,3 @@ pub use printing::print_program;
 pub use source_text::read_program;
 pub use text_laws::{each_text_has_one_outcome, text_reads_back};
 pub use whole_text::parse;
-
-#[cfg(test)]
-mod tests;

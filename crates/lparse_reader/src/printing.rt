@@ -208,6 +208,3 @@ fn print_number<K: Sink>(number: u64, sink: &mut K) -> Result<(), WriteFault>
 {
     write_number_after(b' ', number, sink)
 }
-
-#[cfg(test)]
-mod tests;

@@ -1,5 +1,3 @@
-pub mod ListLemmas
-pub mod SumLemmas
 pub mod RankLemmas
 pub mod NormalLemmas
 pub mod UniqueLemmas

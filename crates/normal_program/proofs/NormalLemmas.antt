@@ -19,9 +19,9 @@ use Rattle.normal_program.specs.declared.normal.Normal.{Normal}
 use Rattle.normal_program.specs.Body.{rank, is_same, total_weight, IsMerged, BodyHoldsN}
 use Rattle.normal_program.specs.Normal.{IsBodyOf, StandsFor, IsNormalFormOf, RuleBodyHolds, KeepsN}
 use Rattle.normal_program.specs.Normal.{IsAnswerSetN, SameBodies, SameAnswerSets}
-use Rattle.normal_program.proofs.ListLemmas.{AllZip-weaker, AllZip-All, AllZip-Any, AllZip-flip}
+use Rattle.item_list.proofs.ListLemmas.{AllZip-weaker, AllZip-All, AllZip-Any, AllZip-flip}
 use Rattle.normal_program.proofs.RankLemmas.{rank-injective}
-use Rattle.normal_program.proofs.SumLemmas.{sum_by-agree, sum_by-one, sum_by-none, sum_by_swap}
+use Rattle.item_list.proofs.ListLemmas.{sum_by-agree, sum_by-one, sum_by-none, sum_by_swap}
 
 -- a choice between a sum and 0
 sum_by-choice : {X : Type 0} (b : Bool) (f : X → ℕ) (xs : List X)

@@ -20,8 +20,8 @@ use Rattle.normal_program.specs.Normal.{IsBodyOf, StandsFor, IsNormalFormOf}
 use Rattle.normal_program.specs.Limit.{IsNormal}
 use Rattle.normal_program.specs.Loop.{IsAtomOf}
 use Rattle.normal_program.specs.Range.{IsInRange}
-use Rattle.normal_program.proofs.ListLemmas.{AllZip-All, AllZip-flip, AllZip-length, All-found}
-use Rattle.normal_program.proofs.ListLemmas.{IsSomeAnd-found}
+use Rattle.item_list.proofs.ListLemmas.{AllZip-All, AllZip-flip, AllZip-length, All-found}
+use Rattle.item_list.proofs.ListLemmas.{IsSomeAnd-found}
 use Rattle.normal_program.proofs.UniqueLemmas.{body_at}
 
 module _ {X : Type 0} (P : X → Type 0) where

@@ -15,7 +15,7 @@ use Rattle.normal_program.specs.declared.normal.NormalRule.{NormalRule}
 use Rattle.normal_program.specs.declared.normal.Normal.{Normal}
 use Rattle.normal_program.specs.Body.{rank, total_weight, IsMerged}
 use Rattle.normal_program.specs.Normal.{IsBodyOf, StandsFor, AreNumbered, IsNormalFormOf}
-use Rattle.normal_program.proofs.ListLemmas.{Any-weaker, AllZip-at, AllZip-length, IsSomeAnd-found}
+use Rattle.item_list.proofs.ListLemmas.{Any-weaker, AllZip-at, AllZip-length, IsSomeAnd-found}
 use Rattle.normal_program.proofs.RankLemmas.{rank-injective}
 
 -- parts in order

@@ -1,2 +1,2 @@
 mod Buffer
-pub mod NumberLemmas
+mod NumberLemmas

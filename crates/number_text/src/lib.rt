@@ -4,6 +4,3 @@
 mod writing;
 
 pub use writing::{write_number, write_number_after, write_number_ended};
-
-#[cfg(test)]
-mod tests;

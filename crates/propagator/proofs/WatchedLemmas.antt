@@ -115,7 +115,8 @@ ready_with_last clauses clause trail old new at ready over last is =
           (attached_push old.clauses clauses at clause ready.attached last);
       same_vars = ap (λ watches. watches.vars) new_is ∙ ready.same_vars;
       over = All-push (All (IsOver trail.vars)) clauses clause ready.over over;
-      followed = subst (λ watches. AreFollowed trail.steps watches.followed) (sym new_is) ready.followed;
+      followed =
+          subst (λ watches. AreFollowed trail.steps watches.followed) (sym new_is) ready.followed;
       of_store = trail_stays clauses clause trail.steps ready.of_store;
     }
   where
@@ -151,7 +152,8 @@ ready_with_again clauses trail old new at ready is =
           is.named);
       same_vars = ap (λ watches. watches.vars) is.last ∙ ready.same_vars;
       over = ready.over;
-      followed = subst (λ watches. AreFollowed trail.steps watches.followed) (sym is.last) ready.followed;
+      followed =
+          subst (λ watches. AreFollowed trail.steps watches.followed) (sym is.last) ready.followed;
       of_store = ready.of_store;
     }
 

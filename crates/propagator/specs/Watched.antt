@@ -41,8 +41,8 @@ abbrev pub AreQuietOn : List Step → List Attached → Type 0
 AreQuietOn steps attached = All (λ it. IsQuietOn steps it.lits) attached
 
 -- what propagation asks of a store, a trail and watches, and leaves: the watches are just of the
--- store's clauses and over the trail's variables, follow a front of the trail, and the trail is of the
--- store
+-- store's clauses and over the trail's variables, follow a front of the trail, and the trail is of
+-- the store
 pub record IsReady (clauses : List (List Lit)) (trail : Assigned) (watches : Watched) : Type 0 where
   pub attached : AreAttached watches.clauses clauses
   pub same_vars : watches.vars ≡ trail.vars

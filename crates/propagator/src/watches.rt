@@ -58,8 +58,8 @@ impl Watches {
         self.clauses.push(alloc, Entry::of(store, at))
     }
 
-    /// Follows only assignments of the trail. It is called after each going back of the trail: what is
-    /// followed was a front of an earlier trail, and the trail is what that has up to a level.
+    /// Follows only assignments of the trail. It is called after each going back of the trail: what
+    /// is followed was a front of an earlier trail, and the trail is what that has up to a level.
     pub fn rewind(&mut self, trail: &Trail)
         requires same_vars { self.old.vars ≡ trail.now.vars }
         requires gone_back { HasGoneBack trail.now self.old.followed }

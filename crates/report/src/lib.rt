@@ -6,6 +6,3 @@ mod writing;
 
 pub use lines::{Line, Why};
 pub use writing::write_line;
-
-#[cfg(test)]
-mod tests;

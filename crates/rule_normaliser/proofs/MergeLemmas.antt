@@ -20,7 +20,7 @@ use Rattle.rule_normaliser.specs.declared.key.KeyPart.{KeyPart}
 use Rattle.normal_program.specs.Body.{rank, is_same, total_weight, IsMerged}
 use Rattle.rule_normaliser.specs.Key.{part_of, KeepsMerged}
 use Rattle.normal_program.proofs.RankLemmas.{rank-injective}
-use Rattle.normal_program.proofs.ListLemmas.{Any-append_left, All-found}
+use Rattle.item_list.proofs.ListLemmas.{Any-append_left, All-found}
 
 module _ (body : List Weighted) (item : Weighted) (lit : AtomLit) where
   -- another literal leaves the weight of a literal as it is

@@ -20,8 +20,8 @@ use Rattle.ground_program.specs.declared.program.Rule.{Rule}
 use Rattle.normal_program.specs.declared.normal.BodyOf.{BodyOf}
 use Rattle.normal_program.specs.declared.normal.NormalRule.{NormalRule}
 use Rattle.normal_program.specs.Normal.{IsBodyOf, StandsFor, HasNumber, AreInOrder, AreNumbered}
-use Rattle.normal_program.proofs.ListLemmas.{Any-append_left, slice_get_append, IsSomeAnd-kept}
-use Rattle.normal_program.proofs.ListLemmas.{AllZip-add, AllZip-weaker}
+use Rattle.item_list.proofs.ListLemmas.{Any-append_left, slice_get_append, IsSomeAnd-kept}
+use Rattle.item_list.proofs.ListLemmas.{AllZip-add, AllZip-weaker}
 use Rattle.rule_normaliser.specs.declared.key.KeyPart.{KeyPart}
 use Rattle.rule_normaliser.specs.declared.key.BodyKey.{BodyKey}
 use Rattle.rule_normaliser.specs.Key.{part_of, body_of, Numbers}

@@ -11,8 +11,8 @@ pub record Searched : Type 0 where
   pub trail : Assigned
   pub dead : Bool
 
--- the trail is one of the clauses, which are over its variables, and unless the state is dead all is
--- ready for propagation. No public clause cites this record
+-- the trail is one of the clauses, which are over its variables, and unless the state is dead all
+-- is ready for propagation. No public clause cites this record
 pub record IsKept (clauses : List (List Lit)) (trail : Assigned) (watches : Watched) (dead : Bool) :
     Type 0 where
   pub is_trail : IsTrail trail

@@ -42,9 +42,9 @@ impl SearchState {
         requires few { vars < 2 ^ 31 }
         requires over { AreOver vars store }
         ensures { IfOk result (λ it. it ≡ record {
-            clauses = store;
-            trail = record { vars = vars; steps = [] };
-            dead = false;
+          clauses = store;
+          trail = record { vars = vars; steps = [] };
+          dead = false;
         }) }
     {
         let trail = Trail::open(alloc, vars)?;
@@ -176,7 +176,7 @@ impl SearchState {
         requires alive { self.old.dead ≡ false }
         requires level { level ≤ present_level self.old.trail.steps }
         ensures steps { self.new ≡ record self.old {
-            trail = record self.old.trail { steps = up_to level self.old.trail.steps };
+          trail = record self.old.trail { steps = up_to level self.old.trail.steps };
         } }
         ensures level { present_level self.new.trail.steps ≡ level }
     {

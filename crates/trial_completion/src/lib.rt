@@ -3,6 +3,8 @@
 #![tactic(auto)]
 
 #[cfg(test)]
+mod base_clauses;
+#[cfg(test)]
 mod entailed_clauses;
 #[cfg(test)]
 mod normal_forms;
@@ -12,3 +14,5 @@ mod scene;
 mod spent_tests;
 #[cfg(test)]
 mod tests;
+#[cfg(test)]
+mod within;

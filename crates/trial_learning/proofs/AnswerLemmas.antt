@@ -2,7 +2,6 @@
 use Rattle.std.proofs.Common.{◌≡◌, ◌≢◌, ℕ, List, [], ◌∷◌, length, take, get_or, Option, Some, None}
 use Rattle.std.proofs.Common.{refl, sym, ap, ◌∙◌, subst, inl, inr, arith}
 use Rattle.std.specs.Prelude.{All, Contains, slice_get}
-use Rattle.std.proofs.Math.Seq.{take-length}
 use Rattle.std.proofs.lemmas.List.Elements.{All-cons, All-nil, All-weaker, All-contains}
 use Rattle.std.proofs.lemmas.Option.{slice_get_read}
 use Rattle.clause_store.specs.declared.literal.Lit.{Lit}
@@ -10,21 +9,19 @@ use Rattle.clause_store.specs.declared.literal.ClauseRef.{ClauseRef}
 use Rattle.clause_store.specs.declared.literal.Value.{Value}
 use Rattle.clause_store.specs.declared.literal.Value.TheVariants.{Yes, No, Unset}
 use Rattle.clause_store.specs.declared.step.Step.{Step}
-use Rattle.clause_store.specs.Clause.{variable, negation, IsTrueIn, IsOver, AreOver}
-use Rattle.clause_store.specs.Entailment.{InClosure}
+use Rattle.clause_store.specs.Clause.{variable, HoldsIn, IsOver, AreOver}
 use Rattle.clause_store.specs.Standing.{IsFalse, IsConflict}
 use Rattle.clause_store.specs.Trail.{Assigned, IsTrail, IsTrailOf, IsTotal, step_of, value_by}
 use Rattle.clause_store.specs.Trail.{value_of, values_of}
-use Rattle.clause_store.proofs.LiteralLemmas.{any_from}
 use Rattle.clause_store.proofs.TrailLemmas.{total_means}
-use Rattle.clause_store.proofs.EntailmentLemmas.{not_refuted}
+use Rattle.clause_store.proofs.lemmas.Trails.ZeroLemmas.{false_at_zero}
 use Rattle.propagator.specs.Fixpoint.{IsFixpoint}
 use Rattle.propagator.proofs.TotalLemmas.{total_fixpoint_meets}
 use Rattle.conflict_learning.specs.Analysis.{level_at, greatest_level}
 use Rattle.conflict_learning.specs.AssumptionCore.{IsCore, IsDecision, CannotMeet}
-use Rattle.conflict_learning.proofs.AssignedLemmas.{here_at, level_found, refuter, step_of_before}
-use Rattle.conflict_learning.proofs.GivenLemmas.{ground_known}
+use Rattle.conflict_learning.proofs.AssignedLemmas.{here_at, step_of_before}
 use Rattle.conflict_learning.proofs.LearnedLemmas.{conflict_false}
+use Rattle.trial_learning.proofs.ConflictLemmas.{still_false}
 use Rattle.trial_learning.specs.Search.{AreTrue, AreAssumedFirst, MeanTheSame, IsModelUnder}
 use Rattle.trial_learning.specs.Search.{IsUnmet, IsSearchAnswer}
 use Rattle.trial_learning.specs.declared.search.Answer.{Answer}
@@ -53,18 +50,6 @@ all_ground steps (lit ∷ rest) level =
     All-cons (λ l. level_at steps l ≡ 0) lit rest (omega arith)
     (all_ground steps rest (omega arith))
 
--- what is false at level 0 is refuted with nothing decided
-ground_closure : (clauses : List (List Lit)) (trail : Assigned) (lit : Lit) → IsTrail trail
-    → IsTrailOf trail.steps clauses → IsFalse trail.steps lit → level_at trail.steps lit ≡ 0
-    → InClosure clauses [] (negation lit)
-ground_closure clauses trail lit is of wrong level known has closed =
-    let by = refuter trail.steps lit wrong in
-    subst (Contains known) by.negates
-    (All-contains (λ step. step.level ≡ 0 → Contains known step.lit) trail.steps by.step
-    (subst (All (λ step. step.level ≡ 0 → Contains known step.lit)) (take-length trail.steps)
-    (ground_known clauses trail known is of closed (length trail.steps) (omega arith)))
-    by.here (sym (level_found trail.steps lit by.step by.found).0 ∙ level))
-
 -- where a clause is false at level 0, the clauses can't be met
 pub none_met : (clauses : List (List Lit)) (trail : Assigned) (assumed : List Lit) (at : ClauseRef)
     (lits : List Lit) → IsTrail trail → IsTrailOf trail.steps clauses
@@ -75,11 +60,12 @@ none_met clauses trail assumed at lits is of conflict named level =
     record {
       among = All-nil (Contains assumed);
       unmet = λ values meets all.
-          not_refuted values clauses [] meets (All-nil (IsTrueIn values))
-          (any_from (λ clause. All (λ lit. InClosure clauses [] (negation lit)) clause) clauses lits
-          (here_at clauses at.0 lits named)
-          (λ k d within. ground_closure clauses trail (get_or lits k d) is of (wrong k d within)
-          (all_ground trail.steps lits level k d within)));
+          false_at_zero trail clauses lits values is of
+          (λ k d within.
+          (still_false 0 trail.steps (get_or lits k d) (wrong k d within)
+          (omega (arith, all_ground trail.steps lits level k d within))).is_false)
+          (All-contains (HoldsIn values) clauses lits meets (here_at clauses at.0 lits named))
+          meets;
     }
   where
     wrong : All (IsFalse trail.steps) lits

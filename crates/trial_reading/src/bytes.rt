@@ -1,7 +1,8 @@
+// The edges: what is read, what is written, and which calls fail.
 ghost use Rattle.std.specs.Prelude.{◌≡◌, ◌<◌, ◌++◌, length, IfOk, IsErrOf, IsTrue};
 ghost use Rattle.byte_edges.specs.Edges.{Writes};
 
-use crate::{
+use byte_edges::{
     InputError, MemorySink, MemorySource, Sink, Source, StdSink, StdSource, SteadySink,
     SteadySource, WriteFault, read_all, write_bytes,
 };

@@ -1,5 +1,6 @@
-use crate::{write_number, write_number_after, write_number_ended};
+// Numbers in decimal.
 use byte_edges::{MemorySink, SteadySink};
+use number_text::{write_number, write_number_after, write_number_ended};
 use std::test::Fail;
 
 #[test]

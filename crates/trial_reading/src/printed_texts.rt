@@ -1,5 +1,6 @@
-use crate::{parse, print_program};
+// The canonical text of programs.
 use byte_edges::{MemorySink, SteadySink};
+use lparse_reader::{parse, print_program};
 use std::test::Fail;
 
 /// Texts, and what is printed of the programs that they are read as.

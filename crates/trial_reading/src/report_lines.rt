@@ -1,9 +1,10 @@
+// The text of each form of line.
 ghost use Rattle.std.specs.Prelude.{◌≡◌, length, IfOk};
 ghost use Rattle.report.specs.Text.{NamesCandidate};
 
-use crate::{Line, Why, write_line};
 use byte_edges::MemorySink;
 use ground_program::{List, Named, Names, NoMemory, Set};
+use report::{Line, Why, write_line};
 use std::alloc::Global;
 use std::process::Abort;
 use std::test::Fail;

@@ -1,7 +1,8 @@
-use crate::run;
+// Whole runs.
 use byte_edges::{MemorySink, MemorySource, SteadySink, SteadySource};
 use std::alloc::{AllocError, Global};
 use std::test::Fail;
+use wasp2_run::run;
 
 // A word, an input, what is written and the status.
 struct Case {

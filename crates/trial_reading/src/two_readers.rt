@@ -1,3 +1,4 @@
+// The reader against a second one that was written apart from it.
 use crate::second_reader::{Outcome, second_reading};
 use byte_edges::SteadySink;
 use lparse_reader::{ReadError, parse, print_program};

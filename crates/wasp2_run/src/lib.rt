@@ -7,6 +7,3 @@ mod refusal_line;
 mod running;
 
 pub use running::{Ended, run};
-
-#[cfg(test)]
-mod tests;

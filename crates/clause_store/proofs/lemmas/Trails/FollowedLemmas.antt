@@ -1,5 +1,6 @@
 -- Which assignments are followed when a trail grows and when it goes back.
-use Rattle.std.proofs.Common.{◌≡◌, ℕ, ◌<◌, ◌≤◌, min, List, [], ◌∷◌, ◌++◌, length, map, take, refl, sym}
+use Rattle.std.proofs.Common.{◌≡◌, ℕ, ◌<◌, ◌≤◌, min, List, [], ◌∷◌, ◌++◌, length, map, take, refl}
+use Rattle.std.proofs.Common.{sym}
 use Rattle.std.proofs.Common.{ap, ◌∙◌, subst, inl, inr, arith}
 use Rattle.std.proofs.lemmas.Bool.{cases_lt, le-leb, lt-leb}
 use Rattle.std.proofs.lemmas.List.{length-map, length-take, take-append-le, take-map, take-take}
@@ -7,7 +8,8 @@ use Rattle.std.proofs.lemmas.List.{take_all}
 use Rattle.clause_store.specs.declared.step.Step.{Step}
 use Rattle.clause_store.specs.Trail.{Assigned, IsTrail, present_level, up_to}
 use Rattle.clause_store.specs.Standing.{Followed, AreFollowed, GoesBack, as_followed}
-use Rattle.clause_store.specs.FollowedLaws.{FollowedWithMore, FollowedAfterBack, FollowedHasGoneBack}
+use Rattle.clause_store.specs.FollowedLaws.{FollowedWithMore, FollowedAfterBack}
+use Rattle.clause_store.specs.FollowedLaws.{FollowedHasGoneBack}
 use Rattle.clause_store.specs.FollowedLaws.{GoneBackFurther}
 use Rattle.clause_store.proofs.BackLemmas.{back_twice, front_after_back}
 use Rattle.clause_store.proofs.ReasonLemmas.{up_to_all}

@@ -1,11 +1,13 @@
-use Rattle.std.proofs.Common.{◌≤◌, List, All, sym, subst, ◌∙◌}
-use Rattle.clause_store.specs.declared.literal.Lit.{Lit}
-use Rattle.clause_store.specs.Clause.{variable}
-use Rattle.completion.proofs.GainLemmas.{vars-negations}
+use Rattle.std.proofs.Common.{[], ◌∷◌, map}
+use Rattle.clause_store.specs.Clause.{negation}
+use Rattle.normal_program.specs.Clauses.{positive, negative}
+use Rattle.completion.proofs.AddsLemmas.{Adds-then}
 use Rattle.completion.proofs.body_clauses.define.Goals as goal
 
-pub add_clause-requires : goal.add_clause-requires
-add_clause-requires c =
-    subst (λ (lits : List Lit). All (λ lit. 1 ≤ variable lit) lits)
-    (sym (c.as_slice.ensures.value ∙ c.in_ok-clause.ensures))
-    (vars-negations c.args.var.0 c.args.parts.now c.requires.var.first c.requires.parts)
+pub returns : goal.returns
+returns c =
+    let var = c.args.var.0 in
+    let lits = c.args.lits.now in
+    Adds-then c.all_or_false.result c.args.store.now c.imply_each.new.store
+    c.all_or_false.new.store (map (λ lit. negative var ∷ lit ∷ []) lits)
+    ((positive var ∷ map negation lits) ∷ []) c.in_ok-imply_each.ensures c.all_or_false.ensures

@@ -1,5 +1,5 @@
 use Rattle.std.proofs.Common.{◌≡◌, ◌+◌, ◌∷◌, [], ◌++◌, take}
-use Rattle.least_model.proofs.ListLemmas.{take_more_read}
+use Rattle.item_list.proofs.ListLemmas.{take_more_read}
 use Rattle.least_model.proofs.RoundLemmas.{round_grew, round_same}
 use Rattle.least_model.proofs.rounds.add_heads.Goals as goal
 use Rattle.least_model.proofs.rounds.add_heads.Goals.{then-add_head, else-add_head}

@@ -18,7 +18,7 @@ use Rattle.normal_program.specs.declared.normal.BodyOf.{BodyOf}
 use Rattle.normal_program.specs.Body.{is_conjunctive, full_weight, part_weight, weight_of}
 use Rattle.normal_program.specs.Body.{body_holds}
 use Rattle.normal_program.specs.Clauses.{positive, negative, all_clauses}
-use Rattle.normal_program.proofs.SumLemmas.{sum_by-agree}
+use Rattle.item_list.proofs.ListLemmas.{sum_by-agree}
 use Rattle.normal_program.proofs.lemmas.Base.TruthLemmas.{makes_true-positive, makes_true-negative}
 use Rattle.normal_program.proofs.lemmas.Base.TruthLemmas.{makes_true-negation, HoldsIn-here}
 use Rattle.normal_program.proofs.lemmas.Base.TruthLemmas.{HoldsIn-there}

@@ -30,7 +30,7 @@ use Rattle.normal_program.proofs.lemmas.Base.TruthLemmas.{variable-literal_of}
 use Rattle.normal_program.proofs.lemmas.Base.EntailedLemmas.{numbered_at, numbers_within}
 
 -- all items of many lists are what those of each are
-all_flat : {X Y : Type 0} (P : X → Type 0) (f : Y → List X) (ys : List Y)
+pub all_flat : {X Y : Type 0} (P : X → Type 0) (f : Y → List X) (ys : List Y)
     → All (λ y. All P (f y)) ys → All P (flat_map f ys)
 all_flat P f [] all = All-nil P
 all_flat P f (y ∷ ys) all =
@@ -44,7 +44,7 @@ module _ (vars : ℕ) where
       All-contains (IsOver vars) clause (get_or (each_once clause) k d) over
       (once_from clause (get_or (each_once clause) k d) (Contains-get_or (each_once clause) k d h))
 
-  cleaned_over : (clauses : List (List Lit)) → AreOver vars clauses → AreOver vars (cleaned clauses)
+  pub cleaned_over : (clauses : List (List Lit)) → AreOver vars clauses → AreOver vars (cleaned clauses)
   cleaned_over clauses over =
       All-filter (λ clause. not (is_tautology clause)) (All (IsOver vars)) (map each_once clauses)
       (All-map (All (IsOver vars)) each_once clauses
@@ -58,20 +58,20 @@ module _ (vars : ℕ) where
   }
 
   -- both literals of a variable
-  positive_over : (var : ℕ) → 1 ≤ var → var ≤ vars → IsOver vars (positive var)
+  pub positive_over : (var : ℕ) → 1 ≤ var → var ≤ vars → IsOver vars (positive var)
   positive_over var first last = record {
     first = omega (arith, first, variable-positive var);
     last = omega (arith, last, variable-positive var);
   }
 
-  negative_over : (var : ℕ) → 1 ≤ var → var ≤ vars → IsOver vars (negative var)
+  pub negative_over : (var : ℕ) → 1 ≤ var → var ≤ vars → IsOver vars (negative var)
   negative_over var first last = record {
     first = omega (arith, first, variable-negative var);
     last = omega (arith, last, variable-negative var);
   }
 
   -- the clauses by which a variable means literals
-  all_clauses_over : (var : ℕ) (lits : List Lit) → 1 ≤ var → var ≤ vars → All (IsOver vars) lits
+  pub all_clauses_over : (var : ℕ) (lits : List Lit) → 1 ≤ var → var ≤ vars → All (IsOver vars) lits
       → AreOver vars (all_clauses var lits)
   all_clauses_over var lits first last over =
       All-append (All (IsOver vars)) (map (λ lit. negative var ∷ lit ∷ []) lits)
@@ -88,16 +88,16 @@ module _ (vars : ℕ) where
       (All-nil (All (IsOver vars))))
 
 module _ (normal : Normal) (in_range : IsInRange normal) where
-  abbrev vars : ℕ
+  abbrev pub vars : ℕ
   vars = greatest_body_var normal
 
-  atom_over : (atom : ℕ) → IsAtomOf normal atom → IsOver vars (positive atom)
+  pub atom_over : (atom : ℕ) → IsAtomOf normal atom → IsOver vars (positive atom)
   atom_over atom is = positive_over vars atom is.first (omega (arith, is.last))
 
-  denied_over : (atom : ℕ) → IsAtomOf normal atom → IsOver vars (negative atom)
+  pub denied_over : (atom : ℕ) → IsAtomOf normal atom → IsOver vars (negative atom)
   denied_over atom is = negative_over vars atom is.first (omega (arith, is.last))
 
-  part_over : (part : Part) → IsAtomOf normal part.lit.atom → IsOver vars (literal_of part.lit)
+  pub part_over : (part : Part) → IsAtomOf normal part.lit.atom → IsOver vars (literal_of part.lit)
   part_over part is = record {
     first = omega (arith, is.first, variable-literal_of part.lit);
     last = omega (arith, is.last, variable-literal_of part.lit);
@@ -166,7 +166,7 @@ module _ (normal : Normal) (in_range : IsInRange normal) where
       (λ rule. rule.body < length normal.bodies) normal.rules in_range.numbers)))
 
   -- of the compute statement
-  alone_over : (f : ℕ → Lit) → ((atom : ℕ) → IsAtomOf normal atom → IsOver vars (f atom))
+  pub alone_over : (f : ℕ → Lit) → ((atom : ℕ) → IsAtomOf normal atom → IsOver vars (f atom))
       → (atoms : List ℕ)
       → All (IsAtomOf normal) atoms → AreOver vars (map (λ atom. alone (f atom)) atoms)
   alone_over f over atoms all =
@@ -182,7 +182,7 @@ module _ (normal : Normal) (in_range : IsInRange normal) where
       body_clauses_over item
       (numbered_at normal.bodies item (Contains-get_or (numbered_bodies normal) k d h)))
 
-  rules_over : AreOver vars (flat_map (rule_clauses normal) normal.rules)
+  pub rules_over : AreOver vars (flat_map (rule_clauses normal) normal.rules)
   rules_over =
       all_flat (All (IsOver vars)) (rule_clauses normal) normal.rules
       (λ k d h. rule_clauses_over (get_or normal.rules k d) (in_range.numbers k d h)

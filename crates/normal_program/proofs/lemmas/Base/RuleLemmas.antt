@@ -20,7 +20,7 @@ use Rattle.normal_program.specs.Body.{body_holds, weight_of, BodyHoldsN}
 use Rattle.normal_program.specs.Normal.{body_var, RuleBodyHolds, KeepsN}
 use Rattle.normal_program.specs.Clauses.{positive, negative, is_choice}
 use Rattle.normal_program.specs.Loop.{IsAtomOf}
-use Rattle.normal_program.proofs.ListLemmas.{IsSomeAnd-found}
+use Rattle.item_list.proofs.ListLemmas.{IsSomeAnd-found}
 use Rattle.normal_program.proofs.lemmas.Base.TruthLemmas.{makes_true-positive, makes_true-negative}
 use Rattle.normal_program.proofs.lemmas.Base.TruthLemmas.{HoldsIn-here}
 use Rattle.normal_program.proofs.lemmas.Base.TruthLemmas.{HoldsIn-there, HoldsIn-cases, HoldsIn-by}
@@ -32,7 +32,7 @@ pub record Reads (normal : Normal) (values set : List Bool) : Type 0 where
       → truth values (body_var normal number) ≡ body_holds set set body
 
 -- some head is in, where the heads hold and the rule is no choice rule
-heads-some : (kind : Kind) (by set : List Bool) (heads : List ℕ) → is_choice kind ≡ false
+pub heads-some : (kind : Kind) (by set : List Bool) (heads : List ℕ) → is_choice kind ≡ false
     → HeadsFit kind heads → HeadHolds kind by set heads → Any (IsIn set) heads
 heads-some Basic by set heads other fit holds = (
   0,
@@ -68,7 +68,7 @@ one-head set heads one some k d within =
     ∙ ap (λ j. get_or heads j d) (sym same)) some.4
 
 -- the heads hold, where some head is in and the rule is no choice rule
-some-heads : (kind : Kind) (by set : List Bool) (heads : List ℕ) → is_choice kind ≡ false
+pub some-heads : (kind : Kind) (by set : List Bool) (heads : List ℕ) → is_choice kind ≡ false
     → HeadsFit kind heads → Any (IsIn set) heads → HeadHolds kind by set heads
 some-heads Basic by set heads other fit some = one-head set heads fit some
 some-heads Constraint by set heads other fit some = one-head set heads fit some

@@ -17,7 +17,7 @@ use Rattle.normal_program.specs.Normal.{greatest_body_var, extension}
 use Rattle.normal_program.specs.Clauses.{AreChosen, IsEntailed}
 use Rattle.normal_program.specs.Loop.{IsAtomOf, FollowsFromBody}
 use Rattle.normal_program.specs.Range.{IsInRange}
-use Rattle.normal_program.proofs.ListLemmas.{AllZip-length}
+use Rattle.item_list.proofs.ListLemmas.{AllZip-length}
 
 -- a pairing with two lists in a row pairs the first with a front
 pub AllZip-front : {X Y : Type 0} (R : X → Y → Type 0) (xs more : List X) (ys : List Y)

@@ -22,8 +22,8 @@ use Rattle.normal_program.specs.Clauses.{IsEntailed}
 use Rattle.normal_program.specs.Loop.{is_beside, weight_beside, AnswersFor, IsAtomOf}
 use Rattle.normal_program.specs.Loop.{IsLoopClauseFor}
 use Rattle.normal_program.specs.Range.{IsInRange}
-use Rattle.normal_program.proofs.ListLemmas.{Any-weaker}
-use Rattle.normal_program.proofs.SumLemmas.{sum_by-le_each}
+use Rattle.item_list.proofs.ListLemmas.{Any-weaker}
+use Rattle.item_list.proofs.ListLemmas.{sum_by-le_each}
 use Rattle.normal_program.proofs.lemmas.Base.TruthLemmas.{makes_true-positive, makes_true-negative}
 use Rattle.normal_program.proofs.lemmas.Base.CleanLemmas.{has_lit-Contains}
 use Rattle.normal_program.proofs.lemmas.Base.RuleLemmas.{Reads, holds-truth}

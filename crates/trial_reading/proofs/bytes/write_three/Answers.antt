@@ -1,5 +1,5 @@
 use Rattle.byte_edges.proofs.CallerLemmas.{writes_then, writes_longer, writes_fault}
-use Rattle.byte_edges.proofs.tests.write_three.Goals as goal
+use Rattle.trial_reading.proofs.bytes.write_three.Goals as goal
 
 pub returns-in_err-write_bytes : goal.returns-in_err-write_bytes
 returns-in_err-write_bytes g c =

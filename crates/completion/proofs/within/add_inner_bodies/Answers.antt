@@ -1,0 +1,51 @@
+use Rattle.std.proofs.Common.{◌≡◌, ◌<◌, List, length, flat_map, take, take_all, get_or, subst, ap}
+use Rattle.std.proofs.Common.{arith}
+use Rattle.std.proofs.lemmas.List.FromFn.{length-enumerate_from}
+use Rattle.normal_program.specs.declared.normal.BodyOf.{BodyOf}
+use Rattle.normal_program.specs.Clauses.{numbered_bodies, cleaned}
+use Rattle.normal_program.specs.Spent.{inner_body_clauses}
+use Rattle.completion.specs.Filling.{Gains}
+use Rattle.completion.proofs.AddsLemmas.{Adds-stopped, flat_more, flat_stopped, numbered_of}
+use Rattle.completion.proofs.within.add_inner_bodies.Goals as goal
+
+pub loop-number-preserved : goal.loop-number-preserved
+loop-number-preserved c =
+    let normal = c.args.normal.now in
+    let number = c.loop-number.number in
+    let body = c.body-item.result in
+    flat_more (inner_body_clauses normal c.args.set.now) c.args.store.now c.loop-number.store
+    c.add_inner_body.new.store
+    (numbered_bodies normal) number (number, body)
+    (numbered_of c.as_slice-body-items.result.now normal.bodies number body
+    c.as_slice-body-items.ensures c.loop-number-test.true c.body-item.is)
+    c.loop-number.invariant c.in_ok-add_inner_body.ensures
+
+pub returns-in_err-add_inner_body : goal.returns-in_err-add_inner_body
+returns-in_err-add_inner_body c =
+    let normal = c.args.normal.now in
+    let number = c.loop-number.number in
+    let body = c.body-item.result in
+    Adds-stopped c.from_residual.result c.args.store.now c.add_inner_body.new.store _
+    c.from_residual.ensures.0
+    (flat_stopped (inner_body_clauses normal c.args.set.now) c.args.store.now c.loop-number.store
+    c.add_inner_body.new.store
+    (numbered_bodies normal) number (number, body)
+    (numbered_of c.as_slice-body-items.result.now normal.bodies number body
+    c.as_slice-body-items.ensures c.loop-number-test.true c.body-item.is)
+    c.loop-number.invariant c.in_err-add_inner_body.ensures)
+
+pub returns : goal.returns
+returns c =
+    let normal = c.args.normal.now in
+    let all : take c.loop-number.number (numbered_bodies normal) ≡ numbered_bodies normal =
+    take_all c.loop-number.number (numbered_bodies normal)
+    (omega (
+      arith,
+      c.loop-number-test.false,
+      length-enumerate_from 0 normal.bodies,
+      ap (λ (bodies : List BodyOf). length bodies) c.as_slice-body-items.ensures,
+    )) in
+    subst
+    (λ items. Gains c.args.store.now c.loop-number.store
+    (cleaned (flat_map (inner_body_clauses normal c.args.set.now) items))) all
+    c.loop-number.invariant

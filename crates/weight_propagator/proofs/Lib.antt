@@ -1,0 +1,9 @@
+pub mod TruthLemmas
+pub mod ValueLemmas
+pub mod ReasonLemmas
+pub mod CaseLemmas
+pub mod GivenLemmas
+pub mod BodyLemmas
+pub mod KeptLemmas
+pub mod MeaningLemmas
+pub mod RowsLemmas
