@@ -1,6 +1,7 @@
 //! The search over a theory: a search by conflicts that makes assumed literals true first.
 #![tactic(auto)]
 
+mod adding;
 mod answer;
 mod asking;
 mod check;
