@@ -1,0 +1,229 @@
+-- How a search goes back over conflicts.
+use Rattle.std.proofs.Common.{◌≡◌, ◌≢◌, ℕ, ◌<◌, ◌≤◌, List, [], ◌∷◌, ◌++◌, refl, sym, ap, ◌∙◌}
+use Rattle.std.proofs.Common.{subst, arith}
+use Rattle.std.specs.Prelude.{All, nat_le}
+use Rattle.std.proofs.lemmas.List.{append-nil}
+use Rattle.std.proofs.lemmas.List.Elements.{All-head, All-weaker, filter-append}
+use Rattle.clause_store.specs.declared.literal.Lit.{Lit}
+use Rattle.clause_store.specs.declared.literal.Value.TheVariants.{No, Unset}
+use Rattle.clause_store.specs.declared.step.Step.{Step}
+use Rattle.clause_store.specs.Clause.{HasNoVariableTwice, IsOver}
+use Rattle.clause_store.specs.Entailment.{Refutes, negations, others}
+use Rattle.clause_store.specs.History.{IsNewWork}
+use Rattle.clause_store.specs.Standing.{IsFalse, ForcesOn}
+use Rattle.clause_store.specs.Trail.{Assigned, IsTrail, present_level, up_to, value_of}
+use Rattle.clause_store.proofs.BackLemmas.{back_twice, none_up_to}
+use Rattle.propagator.specs.Fixpoint.{Extends, IsFixpoint}
+use Rattle.propagator.proofs.ClosureLemmas.{fixpoint_absorbs_no_unit}
+use Rattle.propagator.proofs.ExtendLemmas.{same_level}
+use Rattle.conflict_learning.specs.Analysis.{IsAsserting, greatest_level}
+use Rattle.conflict_learning.specs.declared.learned.Learned.{Learned}
+use Rattle.conflict_learning.proofs.UnitLemmas.{back_is_lower, learned_is_a_unit}
+use Rattle.assumption_engine.specs.Engine.{AreAssumedFirst, IsAsBelow, IsLearned, Taught, WentBack}
+use Rattle.assumption_engine.specs.Progress.{weight}
+use Rattle.assumption_engine.specs.declared.state.State.{State}
+use Rattle.assumption_engine.proofs.GoingLemmas.{first_after_back, first_extended}
+use Rattle.assumption_engine.proofs.ProgressLemmas.{weight_after_back}
+use Rattle.assumption_engine.proofs.StillLemmas.{value_stays}
+
+-- ---- one conflict
+
+-- what the analysis of a conflict says of its clause
+pub record IsAnalysed (clauses : List (List Lit)) (trail : Assigned) (learned : Learned) :
+    Type 0 where
+  pub refuted : Refutes clauses (negations learned.clause)
+  pub is_false : All (IsFalse trail.steps) learned.clause
+  pub once : HasNoVariableTwice learned.clause
+  pub over : All (IsOver trail.vars) learned.clause
+  pub asserting : IsAsserting trail.steps learned.clause learned.asserting
+  pub back : learned.back ≡ greatest_level trail.steps (others learned.clause learned.asserting)
+
+pub taught : (old mid new : State) (learned : Learned) (level : ℕ) → 0 < level
+    → level ≤ present_level old.trail.steps → WentBack level old mid
+    → IsAnalysed mid.store mid.trail learned → WentBack learned.back mid new
+    → Taught old new learned
+taught old mid new learned level above within first is second =
+    record {
+      lower = omega (arith, lower, first.present);
+      back =
+          record {
+            store = second.store ∙ first.store;
+            trail =
+                second.trail
+                ∙ ap (λ (t : Assigned). record t { steps = up_to learned.back t.steps }) first.trail
+                ∙ ap (λ (steps : List Step). record old.trail { steps = steps })
+                (back_twice learned.back level old.trail.steps
+                (omega (arith, lower, first.present)));
+            present = second.present;
+            was_trail = first.was_trail;
+            is_trail = second.is_trail;
+          };
+      is_learned =
+          record {
+            refuted =
+                subst (λ clauses. Refutes clauses (negations learned.clause)) (sym second.store)
+                is.refuted;
+            once = is.once;
+            over =
+                subst (λ t. All (IsOver t.vars) learned.clause) (sym second.trail) is.over;
+            here = is.asserting.here;
+            others =
+                subst (λ t. All (λ other. other ≢ learned.asserting → IsFalse t.steps other)
+                learned.clause) (sym second.trail) forces.others;
+          };
+      unset =
+          subst (λ t. value_of t.steps learned.asserting ≡ Unset) (sym second.trail) forces.unset;
+    }
+  where
+    high : 0 < present_level mid.trail.steps
+    high = omega (arith, first.present, above)
+
+    lower : learned.back < present_level mid.trail.steps
+    lower =
+        omega (
+          arith,
+          is.back,
+          back_is_lower mid.trail.steps learned.clause learned.asserting high is.asserting,
+        )
+
+    forces : ForcesOn (up_to learned.back mid.trail.steps) learned.clause learned.asserting
+    forces =
+        learned_is_a_unit mid.trail learned.clause learned.asserting learned.back first.is_trail
+        high is.is_false is.asserting is.back
+
+-- ---- a clause that may be counted
+
+-- it stays one when assignments come last
+pub learned_extended : (clauses more : List (List Lit)) (old new : Assigned) (clause : List Lit)
+    (lit : Lit) → more ≡ clauses → Extends old new → IsLearned clauses old clause lit
+    → IsLearned more new clause lit
+learned_extended clauses more old new clause lit store extends is =
+    record {
+      refuted = subst (λ all. Refutes all (negations clause)) (sym store) is.refuted;
+      once = is.once;
+      over = subst (λ n. All (IsOver n) clause) (sym extends.vars) is.over;
+      here = is.here;
+      others =
+          All-weaker (λ other. other ≢ lit → IsFalse old.steps other)
+          (λ other. other ≢ lit → IsFalse new.steps other)
+          (λ other no differs.
+          let is_no = no differs in
+          subst (λ steps. IsFalse steps other) (sym extends.steps)
+          (value_stays old.steps extends.added other (λ unset. no_and_unset other is_no unset)
+          ∙ is_no)) clause is.others;
+    }
+  where
+    no_and_unset : (other : Lit) → value_of old.steps other ≡ No → value_of old.steps other ≡ Unset
+        → ⊥
+    no_and_unset other is_no unset = cc
+
+pub new_work : (clauses : List (List Lit)) (trail : Assigned) (clause : List Lit) (lit : Lit)
+    → IsTrail trail → IsFixpoint clauses trail.steps → IsLearned clauses trail clause lit
+    → value_of trail.steps lit ≡ Unset → IsNewWork clauses clause
+new_work clauses trail clause lit is fixpoint learned unset =
+    record {
+      unit =
+          record {
+            some = let here = learned.here in omega (arith, here.1);
+            once = learned.once;
+            new =
+                fixpoint_absorbs_no_unit trail clauses clause lit is fixpoint
+                (record { here = learned.here; unset = unset; others = learned.others });
+          };
+      refuted = learned.refuted;
+    }
+
+-- ---- several conflicts
+
+-- a search went back over conflicts
+pub record IsDown (old new : State) : Type 0 where
+  pub store : new.store ≡ old.store
+  pub vars : new.trail.vars ≡ old.trail.vars
+  pub was_trail : IsTrail old.trail
+  pub is_trail : IsTrail new.trail
+  pub below : IsAsBelow old.trail.steps new.trail.steps
+  pub first :
+      (assumed : List Lit) → AreAssumedFirst assumed old.trail.steps
+      → AreAssumedFirst assumed new.trail.steps
+
+pub down_start : (state : State) → IsTrail state.trail → IsDown state state
+down_start state is =
+    record {
+      store = refl;
+      vars = refl;
+      was_trail = is;
+      is_trail = is;
+      below = record { level = omega arith; same = λ level below. refl };
+      first = λ assumed first. first;
+    }
+
+-- below its level a trail is not changed by what comes last
+same_below : (level : ℕ) (old new : Assigned) → Extends old new
+    → level < present_level old.steps → up_to level new.steps ≡ up_to level old.steps
+same_below level old new is below =
+    let gone : up_to level is.added ≡ [] =
+    none_up_to level is.added
+    (All-weaker (λ s. s.level ≡ present_level old.steps) (λ s. level < s.level)
+    (λ s at. omega (arith, at, below)) is.added is.present) in
+    ap (up_to level) is.steps ∙ filter-append (λ s. nat_le s.level level) old.steps is.added
+    ∙ ap (λ more. up_to level old.steps ++ more) gone ∙ append-nil (up_to level old.steps)
+
+pub down_further : (old now back new : State) (learned : Learned) → IsDown old now
+    → Taught now back learned → new.store ≡ back.store → Extends back.trail new.trail
+    → IsTrail new.trail → IsDown old new
+down_further old now back new learned down is store extends is_trail =
+    record {
+      store = store ∙ is.back.store ∙ down.store;
+      vars = extends.vars ∙ ap (λ t. t.vars) is.back.trail ∙ down.vars;
+      was_trail = down.was_trail;
+      is_trail = is_trail;
+      below =
+          record {
+            level = omega (arith, level, is.back.present, is.lower, down.below.level);
+            same = λ low below.
+                same_below low back.trail new.trail extends (omega (arith, below, level))
+                ∙ ap (λ t. up_to low t.steps) is.back.trail
+                ∙ back_twice low learned.back now.trail.steps
+                (omega (arith, below, level, is.back.present))
+                ∙ down.below.same low (omega (arith, below, level, is.back.present, is.lower));
+          };
+      first =
+          λ assumed first. first_extended assumed back.trail new.trail extends
+          (subst (λ t. AreAssumedFirst assumed t.steps) (sym is.back.trail)
+          (first_after_back assumed now.trail learned.back down.is_trail
+          (down.first assumed first)));
+    }
+  where
+    level : present_level new.trail.steps ≡ present_level back.trail.steps
+    level = same_level back.trail new.trail extends
+
+-- a literal that was unset is assigned by what came last
+came : (old new : Assigned) (lit : Lit) → Extends old new → value_of old.steps lit ≡ Unset
+    → value_of new.steps lit ≢ Unset → (added : List Step) → new.steps ≡ old.steps ++ added
+    → added ≡ [] → ⊥
+came old new lit is unset set added steps none =
+    set (ap (λ s. value_of s lit) (steps ∙ ap (λ more. old.steps ++ more) none
+    ∙ append-nil old.steps) ∙ unset)
+
+-- where the asserting literal was assigned, the trail weighs more
+pub weighs_more : (old now back new : State) (learned : Learned) → IsDown old now
+    → Taught now back learned → Extends back.trail new.trail
+    → value_of new.trail.steps learned.asserting ≢ Unset → weight old.trail < weight new.trail
+weighs_more old now back new learned down is extends set =
+    go extends.added extends.steps extends.present
+  where
+    go : (added : List Step) → new.trail.steps ≡ back.trail.steps ++ added
+        → All (λ step. step.level ≡ present_level back.trail.steps) added
+        → weight old.trail < weight new.trail
+    go [] steps present =
+        absurd (came back.trail new.trail learned.asserting extends is.unset set [] steps refl)
+    go (step ∷ rest) steps present =
+        let at : step.level ≡ present_level back.trail.steps =
+        All-head (λ s. s.level ≡ present_level back.trail.steps) step rest present in
+        weight_after_back old.trail new.trail learned.back step rest down.was_trail
+        (omega (arith, is.lower, down.below.level))
+        (extends.vars ∙ ap (λ t. t.vars) is.back.trail ∙ down.vars)
+        (steps
+        ∙ ap (λ front. front ++ step ∷ rest)
+        (ap (λ t. t.steps) is.back.trail ∙ down.below.same learned.back is.lower))
+        (omega (arith, at, is.back.present))

@@ -1,0 +1,376 @@
+-- How a search goes on: which decisions come first, and which clauses come.
+use Rattle.std.proofs.Common.{◌≡◌, ◌⊎◌, ℕ, zero, suc, ◌<◌, ◌≤◌, ◌+◌, List, [], ◌∷◌, ◌++◌, length}
+use Rattle.std.proofs.Common.{take, Some, None, refl, sym, ap, ◌∙◌, subst, inl, inr, arith}
+use Rattle.std.proofs.Common.{append_assoc, length-append}
+use Rattle.std.specs.Prelude.{All, Contains, slice_get, IsSome, Bool}
+use Rattle.std.specs.Prelude.{Result, Ok, Err, OnOk, IfOk}
+use Rattle.std.proofs.lemmas.Bool.{cases_lt, false≢true}
+use Rattle.std.proofs.lemmas.List.{take-append-le, append-nil}
+use Rattle.std.proofs.Math.Seq.{take-append_seam}
+use Rattle.std.proofs.lemmas.List.Elements.{All-append, All-cons, All-head, All-nil, All-push}
+use Rattle.std.proofs.lemmas.List.Elements.{All-tail, All-weaker, All-contains_itself}
+use Rattle.std.proofs.lemmas.List.Elements.{Contains-append_left}
+use Rattle.std.proofs.lemmas.List.Elements.{Contains-append_right}
+use Rattle.std.proofs.lemmas.Option.{same_Some, slice_get_within}
+use Rattle.clause_store.specs.declared.literal.Lit.{Lit}
+use Rattle.clause_store.specs.declared.step.Step.{Step}
+use Rattle.clause_store.specs.Clause.{HoldsIn, Meets}
+use Rattle.clause_store.specs.Counted.{Counted}
+use Rattle.clause_store.specs.Entailment.{AreUnits, IsUnit}
+use Rattle.clause_store.specs.History.{Added, given, counted, added_clauses, counted_clauses}
+use Rattle.clause_store.specs.History.{given_clauses, IsHistory, IsNewWork}
+use Rattle.clause_store.specs.Laws.{AreMoreClauses}
+use Rattle.clause_store.specs.Standing.{AreFollowed, Followed}
+use Rattle.clause_store.specs.Trail.{Assigned, IsTrail, RisesFrom, next_level, present_level, up_to}
+use Rattle.clause_store.proofs.BackLemmas.{front_after_back}
+use Rattle.clause_store.proofs.EntailmentLemmas.{refuted_follows}
+use Rattle.clause_store.proofs.LiteralLemmas.{all_through, has_first, has_later}
+use Rattle.clause_store.proofs.lemmas.Units.HistoryLemmas.{histories_add, histories_compose}
+use Rattle.clause_store.proofs.lemmas.Units.HistoryLemmas.{history_has_units}
+use Rattle.clause_store.proofs.ReasonLemmas.{slice_get-seam}
+use Rattle.clause_store.proofs.TrailLemmas.{slice_get-append}
+use Rattle.clause_store.proofs.lemmas.Units.UnitLemmas.{units_among_fewer, units_split}
+use Rattle.propagator.specs.Fixpoint.{Extends}
+use Rattle.propagator.specs.Watched.{IsReady}
+use Rattle.assumption_engine.specs.Theory.{Meaning, MeansTheSame}
+use Rattle.assumption_engine.specs.Engine.{AreAssumedFirst, AreTrue, GoesOn, HasCounted}
+use Rattle.assumption_engine.specs.Engine.{IsModelOf, IsRight}
+use Rattle.assumption_engine.specs.declared.state.State.{State}
+use Rattle.assumption_engine.proofs.SameLemmas.{model_same}
+
+-- ---- decisions
+
+-- a trail of level 0 has no decision
+none_decided : (start : ℕ) (steps : List Step) (at : ℕ) (step : Step) → RisesFrom start steps
+    → present_level steps ≡ 0 → slice_get steps at ≡ Some step → step.reason ≡ None → ⊥
+none_decided start [] at step rises level here decided = absurd (cc)
+none_decided start (first ∷ rest) zero step rises level here decided =
+    let same : first ≡ step = same_Some first step here in
+    let high : first.level ≡ start + 1 =
+    rises.0 ∙ ap (next_level start) (ap (λ s. s.reason) same ∙ decided) in
+    absurd (omega arith)
+none_decided start (first ∷ rest) (suc at) step rises level here decided =
+    none_decided first.level rest at step rises.1 (omega arith) here decided
+
+pub first_at_start : (assumed : List Lit) (trail : Assigned) → IsTrail trail
+    → present_level trail.steps ≡ 0 → AreAssumedFirst assumed trail.steps
+first_at_start assumed trail is level at step here decided =
+    absurd (none_decided 0 trail.steps at step is.levels level here decided)
+
+first_of_front : (assumed : List Lit) (front rest : List Step)
+    → AreAssumedFirst assumed (front ++ rest) → AreAssumedFirst assumed front
+first_of_front assumed front rest first at step here decided =
+    let within : at < length front = slice_get_within front at step here in
+    let low : at ≤ length front = omega arith in
+    subst (λ before. Contains assumed step.lit ⊎ AreTrue before assumed)
+    (take-append-le at front rest low)
+    (first at step (slice_get-append front rest at step here) decided)
+
+front_at : (steps : List Step) (last : Step) (at : ℕ) (step : Step) → at < length steps
+    → slice_get (steps ++ last ∷ []) at ≡ Some step → slice_get steps at ≡ Some step
+front_at [] last at step within here = absurd (omega (arith, within))
+front_at (x ∷ steps) last zero step within here = here
+front_at (x ∷ steps) last (suc at) step within here =
+    front_at steps last at step (omega (arith, within)) here
+
+-- an assignment comes last
+pub first_push : (assumed : List Lit) (steps : List Step) (last : Step)
+    → AreAssumedFirst assumed steps
+    → (last.reason ≡ None → Contains assumed last.lit ⊎ AreTrue steps assumed)
+    → AreAssumedFirst assumed (steps ++ last ∷ [])
+first_push assumed steps last first new at step here decided =
+    elim (cases_lt at (length steps)) [
+      | inl before ↦
+          let low : at ≤ length steps = omega arith in
+          subst (λ earlier. Contains assumed step.lit ⊎ AreTrue earlier assumed)
+          (sym (take-append-le at steps (last ∷ []) low))
+          (first at step (front_at steps last at step before here) decided)
+      | inr after ↦
+          let within : at < length (steps ++ last ∷ []) =
+          slice_get_within (steps ++ last ∷ []) at step here in
+          let end : at ≡ length steps = omega (arith, length-append steps (last ∷ [])) in
+          let is : last ≡ step =
+          same_Some last step
+          (sym (slice_get-seam steps last) ∙ ap (slice_get (steps ++ last ∷ [])) (sym end)
+          ∙ here) in
+          subst (λ s. Contains assumed s.lit ⊎ AreTrue (take at (steps ++ last ∷ [])) assumed) is
+          (subst (λ earlier. Contains assumed last.lit ⊎ AreTrue earlier assumed)
+          (sym (ap (λ n. take n (steps ++ last ∷ [])) end ∙ take-append_seam steps (last ∷ [])))
+          (new (ap (λ s. s.reason) is ∙ decided)))
+    ]
+
+-- forced assignments come last
+first_with_forced : (assumed : List Lit) (steps added : List Step) → AreAssumedFirst assumed steps
+    → All (λ step. IsSome step.reason) added → AreAssumedFirst assumed (steps ++ added)
+first_with_forced assumed steps [] first forced =
+    subst (AreAssumedFirst assumed) (sym (append-nil steps)) first
+first_with_forced assumed steps (step ∷ rest) first forced =
+    subst (AreAssumedFirst assumed) (append_assoc steps (step ∷ []) rest)
+    (first_with_forced assumed (steps ++ step ∷ []) rest
+    (first_push assumed steps step first
+    (λ none. absurd
+    (false≢true (subst IsSome none (All-head (λ s. IsSome s.reason) step rest forced)))))
+    (All-tail (λ s. IsSome s.reason) step rest forced))
+
+-- a front of the trail
+pub first_after_back : (assumed : List Lit) (trail : Assigned) (level : ℕ) → IsTrail trail
+    → AreAssumedFirst assumed trail.steps → AreAssumedFirst assumed (up_to level trail.steps)
+first_after_back assumed trail level is first =
+    let front = front_after_back trail level is in
+    first_of_front assumed (up_to level trail.steps) front.0
+    (subst (AreAssumedFirst assumed) front.1 first)
+
+pub first_extended : (assumed : List Lit) (old new : Assigned) → Extends old new
+    → AreAssumedFirst assumed old.steps → AreAssumedFirst assumed new.steps
+first_extended assumed old new is first =
+    subst (AreAssumedFirst assumed) (sym is.steps)
+    (first_with_forced assumed old.steps is.added first is.forced)
+
+-- ---- going on
+
+-- nothing came
+pub goes_on_still : (meaning : Meaning) (assumed : List Lit) (old new : State)
+    (before after : Counted) → new.trail.vars ≡ old.trail.vars → new.store ≡ old.store
+    → after ≡ before
+    → (AreAssumedFirst assumed old.trail.steps → AreAssumedFirst assumed new.trail.steps)
+    → GoesOn meaning assumed old new before after
+goes_on_still meaning assumed old new before after vars store same first =
+    record {
+      vars = vars;
+      added = [];
+      clauses = store ∙ sym (append-nil old.store);
+      counts = same ∙ ap (λ units. record before { units = units }) (sym (append-nil before.units));
+      history = record { history = tt; kind = All-nil meaning.may_give };
+      are_units = tt;
+      first = first;
+    }
+
+-- one after the other
+pub goes_on_then : (one two : Meaning) (assumed : List Lit) (first second third : State)
+    (before mid after : Counted) → MeansTheSame one two
+    → GoesOn one assumed first second before mid → GoesOn two assumed second third mid after
+    → GoesOn one assumed first third before after
+goes_on_then one two assumed first second third before mid after same early late =
+    let together = histories_add early.added late.added in
+    record {
+      vars = late.vars ∙ early.vars;
+      added = early.added ++ late.added;
+      clauses =
+          late.clauses ∙ ap (λ clauses. clauses ++ added_clauses late.added) early.clauses
+          ∙ append_assoc first.store (added_clauses early.added) (added_clauses late.added)
+          ∙ ap (λ clauses. first.store ++ clauses) (sym together.added_is);
+      counts =
+          late.counts
+          ∙ ap (λ (it : Counted). record it { units = it.units ++ counted_clauses late.added })
+          early.counts
+          ∙ ap (λ units. record before { units = units })
+          (append_assoc before.units (counted_clauses early.added) (counted_clauses late.added)
+          ∙ ap (λ units. before.units ++ units) (sym together.counted_is));
+      history =
+          record {
+            history =
+                (histories_compose first.store early.added late.added).1 (
+                  early.history.history,
+                  subst (λ clauses. IsHistory clauses late.added) early.clauses
+                      late.history.history,
+                );
+            kind =
+                subst (All one.may_give) (sym together.given_is)
+                (All-append one.may_give (given_clauses early.added) (given_clauses late.added)
+                early.history.kind
+                (All-weaker two.may_give one.may_give (λ clause. (same.may_give clause).1)
+                (given_clauses late.added) late.history.kind));
+          };
+      are_units =
+          subst (AreUnits first.store) (sym together.added_is)
+          ((units_split first.store (added_clauses early.added) (added_clauses late.added)).1 (
+            early.are_units,
+            subst (λ clauses. AreUnits clauses (added_clauses late.added)) early.clauses
+                late.are_units,
+          ));
+      first = λ is. late.first (early.first is);
+    }
+
+-- ---- what was counted
+
+pub counted_none : (meaning : Meaning) (defined clauses : List (List Lit))
+    (before after : Counted) → after ≡ before → HasCounted meaning defined clauses before after
+counted_none meaning defined clauses before after same =
+    record {
+      units = [];
+      counts = same ∙ ap (λ units. record before { units = units }) (sym (append-nil before.units));
+      are = tt;
+      hold = λ values model. All-nil (HoldsIn values);
+    }
+
+-- those that were counted came
+counted_among : (added : List Added)
+    → AreMoreClauses (counted_clauses added) (added_clauses added)
+counted_among [] = All-nil (Contains [])
+counted_among (given clause ∷ rest) =
+    All-weaker (Contains (added_clauses rest)) (Contains (clause ∷ added_clauses rest))
+    (λ one here. has_later clause one (added_clauses rest) here) (counted_clauses rest)
+    (counted_among rest)
+counted_among (counted clause ∷ rest) =
+    All-cons (Contains (clause ∷ added_clauses rest)) clause (counted_clauses rest)
+    (has_first clause (added_clauses rest))
+    (All-weaker (Contains (added_clauses rest)) (Contains (clause ∷ added_clauses rest))
+    (λ one here. has_later clause one (added_clauses rest) here) (counted_clauses rest)
+    (counted_among rest))
+
+counted_there : (clauses more : List (List Lit)) (added : List Added)
+    → more ≡ clauses ++ added_clauses added → AreMoreClauses (counted_clauses added) more
+counted_there clauses more added is =
+    subst (AreMoreClauses (counted_clauses added)) (sym is)
+    (All-weaker (Contains (added_clauses added)) (Contains (clauses ++ added_clauses added))
+    (λ one here. Contains-append_right clauses (added_clauses added) one here)
+    (counted_clauses added) (counted_among added))
+
+-- the clauses of the beginning and those that were counted are there
+still_there : (clauses more : List (List Lit)) (added : List Added)
+    → more ≡ clauses ++ added_clauses added
+    → AreMoreClauses (clauses ++ counted_clauses added) more
+still_there clauses more added is =
+    All-append (Contains more) clauses (counted_clauses added)
+    (subst (AreMoreClauses clauses) (sym is)
+    (All-weaker (Contains clauses) (Contains (clauses ++ added_clauses added))
+    (λ one here. Contains-append_left clauses (added_clauses added) one here) clauses
+    (All-contains_itself clauses)))
+    (counted_there clauses more added is)
+
+-- what was counted first, and then more
+pub counted_then : (one two : Meaning) (followed : List Followed) (defined : List (List Lit))
+    (assumed : List Lit) (first second : State) (before mid after : Counted)
+    → MeansTheSame one two → IsRight two followed second defined
+    → GoesOn one assumed first second before mid
+    → HasCounted two defined second.store mid after
+    → HasCounted one defined first.store before after
+counted_then one two followed defined assumed first second before mid after same right on late =
+    let there = still_there first.store second.store on.added on.clauses in
+    record {
+      units = counted_clauses on.added ++ late.units;
+      counts =
+          late.counts
+          ∙ ap (λ (it : Counted). record it { units = it.units ++ late.units }) on.counts
+          ∙ ap (λ units. record before { units = units })
+          (append_assoc before.units (counted_clauses on.added) late.units);
+      are =
+          (units_split first.store (counted_clauses on.added) late.units).1 (
+            history_has_units first.store on.added on.history.history,
+            units_among_fewer (first.store ++ counted_clauses on.added) second.store late.units
+                there late.are,
+          );
+      hold =
+          λ values model.
+          let then = model_same one two defined values same model in
+          All-append (HoldsIn values) (counted_clauses on.added) late.units
+          (all_through (HoldsIn values) (counted_clauses on.added) second.store
+          (counted_there first.store second.store on.added on.clauses)
+          (right.holds values then))
+          (late.hold values then);
+    }
+
+-- so with nothing more
+pub counted_of : (one two : Meaning) (followed : List Followed) (defined : List (List Lit))
+    (assumed : List Lit) (first second : State) (before after : Counted)
+    → MeansTheSame one two → IsRight two followed second defined
+    → GoesOn one assumed first second before after
+    → HasCounted one defined first.store before after
+counted_of one two followed defined assumed first second before after same right on =
+    counted_then one two followed defined assumed first second before after after same right on
+    (counted_none two defined second.store after after refl)
+
+-- ---- a clause comes
+
+pub right_added : (meaning : Meaning) (followed : List Followed) (old new : State)
+    (defined : List (List Lit)) (clause : List Lit) → IsRight meaning followed old defined
+    → IsReady new.store new.trail new.watches → new.store ≡ old.store ++ clause ∷ []
+    → new.trail ≡ old.trail
+    → ((values : List Bool) → IsModelOf meaning defined values → HoldsIn values clause)
+    → IsRight meaning followed new defined
+right_added meaning followed old new defined clause is ready store trail holds =
+    record {
+      ready = ready;
+      holds =
+          λ values model. subst (Meets values) (sym store)
+          (All-push (HoldsIn values) old.store clause (is.holds values model)
+          (holds values model));
+      needed = more meaning.needs is.needed;
+      kept = more defined is.kept;
+      range =
+          let r = is.range in let same = ap (λ t. t.vars) trail in omega (arith, r, same);
+      follows = subst (λ t. AreFollowed t.steps followed) (sym trail) is.follows;
+    }
+  where
+    more : (clauses : List (List Lit)) → AreMoreClauses clauses old.store
+        → AreMoreClauses clauses new.store
+    more clauses there =
+        subst (AreMoreClauses clauses) (sym store)
+        (All-weaker (Contains old.store) (Contains (old.store ++ clause ∷ []))
+        (λ one here. Contains-append_left old.store (clause ∷ []) one here) clauses there)
+
+-- a clause is counted
+pub goes_on_counted : (meaning : Meaning) (assumed : List Lit) (old new : State)
+    (before after : Counted) (clause : List Lit) → IsNewWork old.store clause
+    → new.store ≡ old.store ++ clause ∷ [] → new.trail ≡ old.trail
+    → after ≡ record before { units = before.units ++ clause ∷ [] }
+    → GoesOn meaning assumed old new before after
+goes_on_counted meaning assumed old new before after clause work store trail counts =
+    record {
+      vars = ap (λ t. t.vars) trail;
+      added = counted clause ∷ [];
+      clauses = store;
+      counts = counts;
+      history = record { history = (work, tt); kind = All-nil meaning.may_give };
+      are_units = (work.unit, tt);
+      first = λ first. subst (λ t. AreAssumedFirst assumed t.steps) (sym trail) first;
+    }
+
+pub counted_one : (meaning : Meaning) (followed : List Followed) (state : State)
+    (defined : List (List Lit)) (before after : Counted) (clause : List Lit)
+    → IsRight meaning followed state defined → IsNewWork state.store clause
+    → after ≡ record before { units = before.units ++ clause ∷ [] }
+    → HasCounted meaning defined state.store before after
+counted_one meaning followed state defined before after clause right work counts =
+    record {
+      units = clause ∷ [];
+      counts = counts;
+      are = (work.unit, tt);
+      hold =
+          λ values model. All-cons (HoldsIn values) clause []
+          (refuted_follows state.store clause work.refuted values (right.holds values model))
+          (All-nil (HoldsIn values));
+    }
+
+-- a clause is given
+pub goes_on_given : (meaning : Meaning) (assumed : List Lit) (old new : State)
+    (same : Counted) (clause : List Lit) → meaning.may_give clause → IsUnit old.store clause
+    → new.store ≡ old.store ++ clause ∷ [] → new.trail ≡ old.trail
+    → GoesOn meaning assumed old new same same
+goes_on_given meaning assumed old new same clause may unit store trail =
+    record {
+      vars = ap (λ t. t.vars) trail;
+      added = given clause ∷ [];
+      clauses = store;
+      counts =
+          ap (λ units. record same { units = units }) (sym (append-nil same.units));
+      history =
+          record {
+            history = tt;
+            kind = All-cons meaning.may_give clause [] may (All-nil meaning.may_give);
+          };
+      are_units = (unit, tt);
+      first = λ first. subst (λ t. AreAssumedFirst assumed t.steps) (sym trail) first;
+    }
+
+-- ---- answers of calls
+
+pub on_ok_then : {X E : Type 0} {P Q : Type 0} (result : Result X E) → OnOk result P → (P → Q)
+    → OnOk result Q
+on_ok_then (Ok x) is then = then is
+on_ok_then (Err e) is then = is
+
+pub if_ok_then : {X E : Type 0} (P Q : X → Type 0) (result : Result X E) → IfOk result P
+    → ((x : X) → P x → Q x) → IfOk result Q
+if_ok_then P Q (Ok x) is then = then x is
+if_ok_then P Q (Err e) is then = is

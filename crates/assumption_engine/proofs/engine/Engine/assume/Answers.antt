@@ -1,0 +1,95 @@
+use Rattle.std.proofs.Common.{◌≢◌, ℕ, List, [], length, get_or, inl, inr, refl, sym, ap, subst, ◌∙◌}
+use Rattle.std.proofs.lemmas.List.Elements.{Contains-get_or}
+use Rattle.std.proofs.lemmas.Option.{get_or_from_slice_get}
+use Rattle.clause_store.specs.declared.literal.Lit.{Lit}
+use Rattle.clause_store.specs.declared.literal.Value.TheVariants.{Yes}
+use Rattle.clause_store.specs.declared.step.Step.{Step}
+use Rattle.clause_store.specs.Trail.{value_of}
+use Rattle.assumption_engine.specs.Engine.{AreAssumedFirst, IsNotTrueAt}
+use Rattle.assumption_engine.proofs.AnswerLemmas.{core_of, is_no, room_below}
+use Rattle.assumption_engine.proofs.GoingLemmas.{first_push, goes_on_still}
+use Rattle.assumption_engine.proofs.ProgressLemmas.{weight_longer}
+use Rattle.assumption_engine.proofs.SameLemmas.{right_pushed, same_itself}
+use Rattle.assumption_engine.proofs.engine.Engine.assume.Goals as goal
+
+-- the assumed literal that was read isn't true
+not_true : (steps : List Step) (assumed : List Lit) (at : ℕ) (d : Lit)
+    → IsNotTrueAt steps assumed at → value_of steps (get_or assumed at d) ≢ Yes
+not_true steps assumed at d next =
+    subst (λ lit. value_of steps lit ≢ Yes)
+    (sym (get_or_from_slice_get assumed at next.lit d next.there)) next.not_true
+
+pub returns-in-Unset-clause-right : goal.returns-in-Unset-clause-right
+returns-in-Unset-clause-right g c =
+    right_pushed (g.T.Theory.meaning c.args.self.now.theory)
+    (g.T.Theory.followed c.args.self.now.theory) c.args.self.now.state c.decide.new.self
+    c.args.self.now.defined _ c.requires.right c.decide.ensures.ready c.decide.ensures.store
+    c.decide.ensures.trail
+
+pub returns-in-Unset-clause-same : goal.returns-in-Unset-clause-same
+returns-in-Unset-clause-same g c = same_itself (g.T.Theory.meaning c.args.self.now.theory)
+
+pub returns-in-Unset-clause-on : goal.returns-in-Unset-clause-on
+returns-in-Unset-clause-on g c =
+    goes_on_still (g.T.Theory.meaning c.args.self.now.theory) c.args.assumed.now
+    c.args.self.now.state c.decide.new.self c.args.budget.now c.args.budget.now
+    (ap (λ t. t.vars) c.decide.ensures.trail) c.decide.ensures.store refl
+    (λ first. subst (λ t. AreAssumedFirst c.args.assumed.now t.steps) (sym c.decide.ensures.trail)
+    (first_push c.args.assumed.now c.args.self.now.state.trail.steps _ first
+    (λ decided. inl (Contains-get_or c.args.assumed.now c.args.at (record { 0 = 0 })
+    c.requires.next.within))))
+
+pub returns-in-Unset-clause-turn : goal.returns-in-Unset-clause-turn
+returns-in-Unset-clause-turn g c =
+    record {
+      nearer =
+          inr (record {
+            same = ap length c.decide.ensures.store;
+            more =
+                weight_longer c.args.self.now.state.trail c.decide.new.self.trail _ []
+                (ap (λ t. t.vars) c.decide.ensures.trail)
+                (ap (λ t. t.steps) c.decide.ensures.trail);
+          });
+      below = c.requires.room.below;
+    }
+
+pub final_core-requires : goal.final_core-requires
+final_core-requires g c =
+    record {
+      of_store = c.requires.right.ready.of_store;
+      over =
+          c.requires.over c.args.at (record { 0 = 0 }) c.requires.next.within;
+      is_false =
+          is_no _
+          (not_true c.args.self.now.state.trail.steps c.args.assumed.now c.args.at
+          (record { 0 = 0 }) c.requires.next)
+          (λ unset. c.in_default.not-Unset (c.value.ensures ∙ unset));
+    }
+
+pub returns : goal.returns
+returns g c =
+    record {
+      right = c.requires.right;
+      same = same_itself (g.T.Theory.meaning c.args.self.now.theory);
+      defined = refl;
+      on =
+          goes_on_still (g.T.Theory.meaning c.args.self.now.theory) c.args.assumed.now
+          c.args.self.now.state c.args.self.now.state c.args.budget.now c.args.budget.now refl refl
+          refl (λ first. first);
+      turn =
+          record {
+            says =
+                core_of (g.T.Theory.meaning c.args.self.now.theory)
+                (g.T.Theory.followed c.args.self.now.theory) c.args.self.now.state
+                c.args.self.now.defined c.args.assumed.now _ c.final_core.new.core
+                c.requires.right c.requires.first
+                (Contains-get_or c.args.assumed.now c.args.at (record { 0 = 0 })
+                c.requires.next.within)
+                (is_no _
+                (not_true c.args.self.now.state.trail.steps c.args.assumed.now c.args.at
+                (record { 0 = 0 }) c.requires.next)
+                (λ unset. c.in_default.not-Unset (c.value.ensures ∙ unset)))
+                c.in_ok-final_core.ensures.core c.in_ok-final_core.ensures.unmet;
+            counted = room_below c.args.stop c.args.budget.now c.requires.room;
+          };
+    }

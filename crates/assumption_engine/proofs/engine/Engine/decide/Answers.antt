@@ -1,0 +1,39 @@
+use Rattle.std.proofs.Common.{[], length, inr, refl, sym, ap, subst}
+use Rattle.assumption_engine.specs.Engine.{AreAssumedFirst}
+use Rattle.assumption_engine.proofs.GoingLemmas.{first_push, goes_on_still}
+use Rattle.assumption_engine.proofs.ProgressLemmas.{weight_longer}
+use Rattle.assumption_engine.proofs.SameLemmas.{right_pushed, same_itself}
+use Rattle.assumption_engine.proofs.engine.Engine.decide.Goals as goal
+
+pub returns-clause-right : goal.returns-clause-right
+returns-clause-right g c =
+    right_pushed (g.T.Theory.meaning c.args.self.now.theory)
+    (g.T.Theory.followed c.args.self.now.theory) c.args.self.now.state c.decide.new.self
+    c.args.self.now.defined _ c.requires.right c.decide.ensures.ready c.decide.ensures.store
+    c.decide.ensures.trail
+
+pub returns-clause-same : goal.returns-clause-same
+returns-clause-same g c = same_itself (g.T.Theory.meaning c.args.self.now.theory)
+
+pub returns-clause-on : goal.returns-clause-on
+returns-clause-on g c =
+    goes_on_still (g.T.Theory.meaning c.args.self.now.theory) c.args.assumed.now
+    c.args.self.now.state c.decide.new.self c.args.budget.now c.args.budget.now
+    (ap (λ t. t.vars) c.decide.ensures.trail) c.decide.ensures.store refl
+    (λ first. subst (λ t. AreAssumedFirst c.args.assumed.now t.steps) (sym c.decide.ensures.trail)
+    (first_push c.args.assumed.now c.args.self.now.state.trail.steps _ first
+    (λ decided. inr c.requires.assumed)))
+
+pub returns-clause-turn : goal.returns-clause-turn
+returns-clause-turn g c =
+    record {
+      nearer =
+          inr (record {
+            same = ap length c.decide.ensures.store;
+            more =
+                weight_longer c.args.self.now.state.trail c.decide.new.self.trail _ []
+                (ap (λ t. t.vars) c.decide.ensures.trail)
+                (ap (λ t. t.steps) c.decide.ensures.trail);
+          });
+      below = c.requires.room.below;
+    }

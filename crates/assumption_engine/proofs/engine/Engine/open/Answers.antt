@@ -1,0 +1,28 @@
+use Rattle.std.proofs.Common.{sym, ap, subst, arith}
+use Rattle.std.proofs.lemmas.List.Elements.{All-nil}
+use Rattle.std.specs.Prelude.{Contains}
+use Rattle.clause_store.specs.Clause.{Meets}
+use Rattle.clause_store.specs.Laws.{AreMoreClauses}
+use Rattle.assumption_engine.proofs.SameLemmas.{none_followed}
+use Rattle.assumption_engine.proofs.engine.Engine.open.Goals as goal
+
+pub returns-clause-right : goal.returns-clause-right
+returns-clause-right g c =
+    record {
+      ready = c.in_ok-state.ensures.ready;
+      holds =
+          λ values model. subst (Meets values) (sym c.in_ok-state.ensures.store)
+          (c.requires.holds values model.model);
+      needed =
+          subst (AreMoreClauses (g.T.Theory.meaning c.args.theory).needs)
+          (sym c.in_ok-state.ensures.store) c.requires.needs;
+      kept =
+          subst (λ defined. AreMoreClauses defined c.in_ok-state.state.store)
+          (sym c.open-4.ensures) (All-nil (Contains c.in_ok-state.state.store));
+      range =
+          let vars = ap (λ t. t.vars) c.in_ok-state.ensures.trail in
+          omega (arith, vars, c.requires.range);
+      follows =
+          none_followed c.in_ok-state.state.trail.steps (g.T.Theory.followed c.args.theory)
+          c.requires.follows;
+    }

@@ -1,0 +1,110 @@
+-- What an engine keeps on its way.
+use Rattle.std.specs.Prelude.{◌≡◌, ◌≢◌, ◌≤◌, ◌<◌, ◌⊎◌, ◌++◌, ℕ, Bool, List, length, take, slice_get}
+use Rattle.std.specs.Prelude.{All, Contains, None, Some}
+use Rattle.clause_store.specs.declared.literal.Lit.{Lit}
+use Rattle.clause_store.specs.declared.literal.ClauseRef.{ClauseRef}
+use Rattle.clause_store.specs.declared.literal.Value.TheVariants.{Yes, Unset}
+use Rattle.clause_store.specs.declared.step.Step.{Step}
+use Rattle.clause_store.specs.Clause.{HasNoVariableTwice, IsOver, Meets}
+use Rattle.clause_store.specs.Counted.{Counted}
+use Rattle.clause_store.specs.Entailment.{AreUnits, Refutes, negations}
+use Rattle.clause_store.specs.Laws.{AreMoreClauses}
+use Rattle.clause_store.specs.Standing.{AreFollowed, Followed, IsFalse}
+use Rattle.clause_store.specs.Trail.{Assigned, IsTrail, present_level, up_to, value_of}
+use Rattle.conflict_learning.specs.Analysis.{greatest_level}
+use Rattle.conflict_learning.specs.declared.learned.Learned.{Learned}
+use Rattle.propagator.specs.Watched.{IsReady}
+use Rattle.assumption_engine.specs.Theory.{Meaning}
+use Rattle.clause_store.specs.History.{Added, added_clauses, counted_clauses, IsHistoryOf}
+use Rattle.assumption_engine.specs.declared.state.State.{State}
+
+-- a model of an engine: one of the theory that meets the clause of each defined selector
+pub record IsModelOf (meaning : Meaning) (defined : List (List Lit)) (values : List Bool) :
+    Type 0 where
+  pub model : meaning.models values
+  pub meets : Meets values defined
+
+-- what is true of an engine between its calls, until memory runs out
+pub record IsRight (meaning : Meaning) (followed : List Followed) (state : State)
+    (defined : List (List Lit)) : Type 0 where
+  pub ready : IsReady state.store state.trail state.watches
+  pub holds : (values : List Bool) → IsModelOf meaning defined values → Meets values state.store
+  pub needed : AreMoreClauses meaning.needs state.store
+  pub kept : AreMoreClauses defined state.store
+  pub range : meaning.greatest ≤ state.trail.vars
+  pub follows : AreFollowed state.trail.steps followed
+
+-- all literals are true
+abbrev pub AreTrue : List Step → List Lit → Type 0
+AreTrue steps lits = All (λ lit. value_of steps lit ≡ Yes) lits
+
+-- the literal at a place isn't true
+pub record IsNotTrueAt (steps : List Step) (lits : List Lit) (at : ℕ) : Type 0 where
+  pub within : at < length lits
+  pub lit : Lit
+  pub there : slice_get lits at ≡ Some lit
+  pub not_true : value_of steps lit ≢ Yes
+
+-- each decision is an assumed literal, or all of these were true before it
+abbrev pub AreAssumedFirst : List Lit → List Step → Type 0
+AreAssumedFirst assumed steps =
+    (at : ℕ) (step : Step) → slice_get steps at ≡ Some step → step.reason ≡ None
+    → Contains assumed step.lit ⊎ AreTrue (take at steps) assumed
+
+-- a search went on: clauses came that were counted or may be given, none of which those before
+-- absorb, and the assumed literals still come first
+pub record GoesOn (meaning : Meaning) (assumed : List Lit) (old new : State)
+    (before after : Counted) : Type 0 where
+  pub vars : new.trail.vars ≡ old.trail.vars
+  pub added : List Added
+  pub clauses : new.store ≡ old.store ++ added_clauses added
+  pub counts : after ≡ record before { units = before.units ++ counted_clauses added }
+  pub history : IsHistoryOf meaning.may_give old.store added
+  pub are_units : AreUnits old.store (added_clauses added)
+  pub first :
+      AreAssumedFirst assumed old.trail.steps → AreAssumedFirst assumed new.trail.steps
+
+-- clauses were counted: they are units beside those of the store, and hold in all models
+pub record HasCounted (meaning : Meaning) (defined clauses : List (List Lit))
+    (before after : Counted) : Type 0 where
+  pub units : List (List Lit)
+  pub counts : after ≡ record before { units = before.units ++ units }
+  pub are : AreUnits clauses units
+  pub hold : (values : List Bool) → IsModelOf meaning defined values → Meets values units
+
+-- the trail went back to a level
+pub record WentBack (level : ℕ) (old new : State) : Type 0 where
+  pub store : new.store ≡ old.store
+  pub trail : new.trail ≡ record old.trail { steps = up_to level old.trail.steps }
+  pub present : present_level new.trail.steps ≡ level
+  pub was_trail : IsTrail old.trail
+  pub is_trail : IsTrail new.trail
+
+-- a clause that was learned, at the level to which it went back: unless its asserting literal is
+-- true there by now, it may be counted
+pub record IsLearned (clauses : List (List Lit)) (trail : Assigned) (clause : List Lit)
+    (asserting : Lit) : Type 0 where
+  pub refuted : Refutes clauses (negations clause)
+  pub once : HasNoVariableTwice clause
+  pub over : All (IsOver trail.vars) clause
+  pub here : Contains clause asserting
+  pub others : All (λ other. other ≢ asserting → IsFalse trail.steps other) clause
+
+-- a conflict taught a clause, and the trail went back to a lower level, at which the clause forces
+-- its asserting literal
+pub record Taught (old new : State) (learned : Learned) : Type 0 where
+  pub lower : learned.back < present_level old.trail.steps
+  pub back : WentBack learned.back old new
+  pub is_learned : IsLearned new.store new.trail learned.clause learned.asserting
+  pub unset : value_of new.trail.steps learned.asserting ≡ Unset
+
+-- below its present level a trail is as another was
+pub record IsAsBelow (old new : List Step) : Type 0 where
+  pub level : present_level new ≤ present_level old
+  pub same : (level : ℕ) → level < present_level new → up_to level new ≡ up_to level old
+
+-- the greatest level of the literals of a clause
+abbrev pub IsLevelOf : State → ClauseRef → ℕ → Type 0
+IsLevelOf state at level =
+    (lits : List Lit) → slice_get state.store at.0 ≡ Some lits
+    → level ≡ greatest_level state.trail.steps lits

@@ -1,0 +1,4 @@
+pub mod Theory
+pub mod Progress
+pub mod Engine
+pub mod Answer

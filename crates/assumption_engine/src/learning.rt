@@ -1,0 +1,160 @@
+// What an engine learns from a clause that is false.
+ghost use Rattle.std.specs.Prelude.{◌≡◌, ◌≤◌, ◌<◌, List, OnOk, IfOk, length};
+ghost use Rattle.clause_store.specs.declared.literal.Lit.{Lit};
+ghost use Rattle.clause_store.specs.Standing.{IsConflict};
+ghost use Rattle.clause_store.specs.Trail.{value_of};
+ghost use Rattle.propagator.specs.Fixpoint.{IsFixpoint};
+ghost use Rattle.assumption_engine.specs.Theory.{MeansTheSame};
+ghost use Rattle.assumption_engine.specs.Engine.{GoesOn, HasCounted, IsLearned, IsRight, Taught};
+ghost use Rattle.assumption_engine.specs.Engine.{IsLevelOf};
+ghost use Rattle.assumption_engine.specs.Answer.{HasRoom, HasTaken, IsStopping, IsTurn};
+
+use crate::answer::{Answer, Turn};
+use crate::engine::Engine;
+use crate::state::know_trail;
+use crate::theory::Theory;
+use clause_store::{Budget, Clause, ClauseRef, NoMemory, Value};
+use conflict_learning::{analyse, greatest_level};
+use std::alloc::Global;
+
+impl<T: Theory> Engine<T> {
+    /// Goes back over conflicts, until the clauses are met or a clause is learned, which is counted
+    /// and put last. The answer is the empty core where a clause is false at level 0.
+    pub(crate) fn learn_from(
+        &mut self,
+        alloc: Global,
+        conflict: ClauseRef,
+        budget: &mut Budget,
+        stop: u32,
+    ) -> Result<Turn, NoMemory>
+        requires right { IsRight (T.meaning self.old.theory) (T.followed self.old.theory)
+            self.old.state self.old.defined }
+        requires conflict { IsConflict self.old.state.store self.old.state.trail.steps conflict }
+        requires room { HasRoom stop budget.old }
+        ensures right { OnOk result (IsRight (T.meaning self.new.theory)
+            (T.followed self.new.theory) self.new.state self.new.defined) }
+        ensures same { MeansTheSame (T.meaning self.old.theory) (T.meaning self.new.theory) }
+        ensures defined { self.new.defined ≡ self.old.defined }
+        ensures on { OnOk result ((assumed : List Lit) → GoesOn (T.meaning self.old.theory)
+            assumed self.old.state self.new.state budget.old budget.new) }
+        ensures counted { HasCounted (T.meaning self.old.theory) self.old.defined
+            self.old.state.store budget.old budget.new }
+        ensures turn { IfOk result (λ turn. (assumed : List Lit) → IsTurn
+            (T.meaning self.old.theory) self.old.defined assumed stop self.old.state
+            self.new.state budget.new turn) }
+    {
+        know_trail(&self.state.trail);
+        let mut conflict = conflict;
+        'conflicts: loop {
+            let level = greatest_level(&self.state.trail, self.state.store.lits(conflict));
+            if level == 0 {
+                return Ok(Turn::Ended(Answer::Core(Clause::open())));
+            }
+            self.resolve(alloc, conflict, level)?;
+            match self.state.propagate() {
+                Some(next) => conflict = next,
+                None => return self.take_learned(alloc, budget, stop),
+            }
+        }
+    }
+
+    /// Learns from a clause that is false, and goes back to the level where what it learned forces
+    /// a literal.
+    fn resolve(&mut self, alloc: Global, conflict: ClauseRef, level: u32) -> Result<(), NoMemory>
+        requires right { IsRight (T.meaning self.old.theory) (T.followed self.old.theory)
+            self.old.state self.old.defined }
+        requires conflict { IsConflict self.old.state.store self.old.state.trail.steps conflict }
+        requires level { IsLevelOf self.old.state conflict level }
+        requires above { 0 < level }
+        ensures right { IsRight (T.meaning self.new.theory) (T.followed self.new.theory)
+            self.new.state self.new.defined }
+        ensures same { MeansTheSame (T.meaning self.old.theory) (T.meaning self.new.theory) }
+        ensures defined { self.new.defined ≡ self.old.defined }
+        ensures taught { OnOk result (Taught self.old.state self.new.state self.new.learned) }
+    {
+        self.go_back(level);
+        analyse(
+            alloc,
+            &self.state.store,
+            &self.state.trail,
+            conflict,
+            &mut self.learned,
+        )?;
+        self.go_back(self.learned.back);
+        Ok(())
+    }
+
+    /// Counts what was learned, unless its asserting literal was assigned by now.
+    fn take_learned(
+        &mut self,
+        alloc: Global,
+        budget: &mut Budget,
+        stop: u32,
+    ) -> Result<Turn, NoMemory>
+        requires right { IsRight (T.meaning self.old.theory) (T.followed self.old.theory)
+            self.old.state self.old.defined }
+        requires fixpoint { IsFixpoint self.old.state.store self.old.state.trail.steps }
+        requires learned { IsLearned self.old.state.store self.old.state.trail
+            self.old.learned.clause self.old.learned.asserting }
+        requires room { HasRoom stop budget.old }
+        ensures right { OnOk result (IsRight (T.meaning self.new.theory)
+            (T.followed self.new.theory) self.new.state self.new.defined) }
+        ensures theory { self.new.theory ≡ self.old.theory }
+        ensures defined { self.new.defined ≡ self.old.defined }
+        ensures trail { self.new.state.trail ≡ self.old.state.trail }
+        ensures on { OnOk result ((assumed : List Lit) → GoesOn (T.meaning self.old.theory)
+            assumed self.old.state self.new.state budget.old budget.new) }
+        ensures counted { HasCounted (T.meaning self.old.theory) self.old.defined
+            self.old.state.store budget.old budget.new }
+        ensures turn { IfOk result (HasTaken stop self.old.state self.new.state
+            self.old.learned.asserting budget.new) }
+    {
+        match self.state.trail.value(self.learned.asserting) {
+            Value::Unset => self.count(alloc, budget, stop),
+            _ => Ok(Turn::Going),
+        }
+    }
+
+    /// Counts what was learned and puts it last.
+    fn count(&mut self, alloc: Global, budget: &mut Budget, stop: u32) -> Result<Turn, NoMemory>
+        requires right { IsRight (T.meaning self.old.theory) (T.followed self.old.theory)
+            self.old.state self.old.defined }
+        requires fixpoint { IsFixpoint self.old.state.store self.old.state.trail.steps }
+        requires learned { IsLearned self.old.state.store self.old.state.trail
+            self.old.learned.clause self.old.learned.asserting }
+        requires unset { value_of self.old.state.trail.steps self.old.learned.asserting
+            ≡ Value.Unset }
+        requires room { HasRoom stop budget.old }
+        ensures right { OnOk result (IsRight (T.meaning self.new.theory)
+            (T.followed self.new.theory) self.new.state self.new.defined) }
+        ensures theory { self.new.theory ≡ self.old.theory }
+        ensures defined { self.new.defined ≡ self.old.defined }
+        ensures trail { self.new.state.trail ≡ self.old.state.trail }
+        ensures on { OnOk result ((assumed : List Lit) → GoesOn (T.meaning self.old.theory)
+            assumed self.old.state self.new.state budget.old budget.new) }
+        ensures counted { HasCounted (T.meaning self.old.theory) self.old.defined
+            self.old.state.store budget.old budget.new }
+        ensures turn { IfOk result (HasTaken stop self.old.state self.new.state
+            self.old.learned.asserting budget.new) }
+    {
+        know_trail(&self.state.trail);
+        budget.count(alloc, self.learned.clause.as_slice())?;
+        self.state.add(alloc, self.learned.clause.as_slice())?;
+        Ok(turn_after(budget, stop))
+    }
+}
+
+/// Whether a search goes on after it counted a clause.
+fn turn_after(budget: &Budget, stop: u32) -> Turn
+    requires within { length budget.now.units ≤ stop }
+    requires limit { stop ≤ budget.now.limit }
+    ensures { IsStopping stop budget.now result }
+{
+    if budget.used() < stop {
+        return Turn::Going;
+    }
+    if budget.used() == budget.limit() {
+        return Turn::Ended(Answer::Spent);
+    }
+    Turn::Ended(Answer::Paused)
+}

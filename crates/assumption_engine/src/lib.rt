@@ -1,0 +1,19 @@
+//! The search over a theory: a search by conflicts that makes assumed literals true first.
+#![tactic(auto)]
+
+mod adding;
+mod answer;
+mod asking;
+mod check;
+mod deciding;
+mod engine;
+mod giving;
+mod learning;
+mod next_decision;
+mod state;
+mod theory;
+
+pub use answer::{Answer, Turn};
+pub use check::Check;
+pub use engine::Engine;
+pub use theory::Theory;
