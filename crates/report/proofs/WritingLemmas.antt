@@ -1,5 +1,6 @@
 -- Writing fields one after another.
-use Rattle.std.proofs.Common.{◌≡◌, ◌≤◌, ◌<◌, ◌+◌, ℕ, Bool, true, false, List, [], ◌∷◌, ◌++◌, Option, Ok}
+use Rattle.std.proofs.Common.{◌≡◌, ◌≤◌, ◌<◌, ◌+◌, ℕ, Bool, true, false, List, [], ◌∷◌, ◌++◌, Option}
+use Rattle.std.proofs.Common.{Ok}
 use Rattle.std.proofs.Common.{length, take, drop, get_or, refl, sym, ◌∙◌, ap, arith, append-nil}
 use Rattle.std.proofs.Common.{append_assoc, decimal, take-suc, take-append-drop, add-one}
 use Rattle.std.proofs.Common.{length-take}
@@ -105,7 +106,8 @@ positions_false set from at d inside holds =
 -- the fields of the positions in a front of a list, and in the rest
 pub positions_parts : (set : List Bool) (from at : ℕ) → at ≤ length set
     → fields (positions_from from set)
-    ≡ fields (positions_from from (take at set)) ++ fields (positions_from (from + at) (drop at set))
+    ≡ fields (positions_from from (take at set))
+    ++ fields (positions_from (from + at) (drop at set))
 positions_parts set from at inside =
     let size : from + length (take at set) ≡ from + at = omega (arith, length-take at set) in
     ap (λ (values : List Bool). fields (positions_from from values))
@@ -130,7 +132,8 @@ positions_around set from at d inside holds =
 -- the fields of the positions in a front, and in a block behind it
 pub positions_block : (set : List Bool) (at count : ℕ) → at + count ≤ length set
     → fields (positions_from 0 (take (at + count) set))
-    ≡ fields (positions_from 0 (take at set)) ++ fields (positions_from at (take count (drop at set)))
+    ≡ fields (positions_from 0 (take at set))
+    ++ fields (positions_from at (take count (drop at set)))
 positions_block set at count inside =
     let size : 0 + length (take at set) ≡ at = omega (arith, length-take at set) in
     ap (λ (values : List Bool). fields (positions_from 0 values)) (take-add at count set)
@@ -145,7 +148,8 @@ positions_block set at count inside =
 -- a block stands between the fields before and those after it
 pub positions_rest : (set : List Bool) (at count : ℕ) → at + count ≤ length set
     → fields (positions_from 0 set)
-    ≡ fields (positions_from 0 (take at set)) ++ fields (positions_from at (take count (drop at set)))
+    ≡ fields (positions_from 0 (take at set))
+    ++ fields (positions_from at (take count (drop at set)))
     ++ fields (positions_from (0 + (at + count)) (drop (at + count) set))
 positions_rest set at count inside =
     positions_parts set 0 (at + count) inside

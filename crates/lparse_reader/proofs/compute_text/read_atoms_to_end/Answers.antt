@@ -1,7 +1,8 @@
 use Rattle.std.proofs.Common.{length}
 use Rattle.std.proofs.lemmas.Result.{err_from_is_err_and}
 use Rattle.lparse_reader.specs.Fields.{until_end_at, atom_or_end_at}
-use Rattle.lparse_reader.proofs.LoopLemmas.{until_goes_on, until_stops, until_done, until_out}
+use Rattle.lparse_reader.proofs.lemmas.Calls.LoopLemmas.{until_goes_on, until_stops, until_done}
+use Rattle.lparse_reader.proofs.lemmas.Calls.LoopLemmas.{until_out}
 use Rattle.lparse_reader.proofs.compute_text.read_atoms_to_end.Goals as goal
 
 pub returns-in_err-atom : goal.returns-in_err-atom

@@ -1,4 +1,4 @@
-use Rattle.lparse_reader.proofs.GreatestLemmas.{greatest_of_rule}
+use Rattle.lparse_reader.proofs.lemmas.Calls.GreatestLemmas.{greatest_of_rule}
 use Rattle.lparse_reader.proofs.greatest.greatest_of_rules.Goals as goal
 
 pub loop-rule-preserved : goal.loop-rule-preserved

@@ -1,6 +1,6 @@
 use Rattle.std.proofs.Common.{◌++◌}
 use Rattle.lparse_reader.specs.Pieces.{body_atoms}
-use Rattle.lparse_reader.proofs.TextWrites.{counts, fields_then, fields_cut}
+use Rattle.lparse_reader.proofs.lemmas.Writing.TextWrites.{counts, fields_then, fields_cut}
 use Rattle.lparse_reader.proofs.printing.print_basic.Goals as goal
 
 pub returns-in_err-print_numbers : goal.returns-in_err-print_numbers

@@ -2,7 +2,7 @@ use Rattle.std.proofs.Common.{[], ◌∷◌}
 use Rattle.byte_edges.proofs.CallerLemmas.{writes_then, writes_longer, writes_fault}
 use Rattle.lparse_reader.specs.Pieces.{negatives}
 use Rattle.lparse_reader.specs.Text.{next_fields}
-use Rattle.lparse_reader.proofs.TextWrites.{last_field}
+use Rattle.lparse_reader.proofs.lemmas.Writing.TextWrites.{last_field}
 use Rattle.lparse_reader.proofs.printing.print_counts.Goals as goal
 
 pub returns-in_err-print_number : goal.returns-in_err-print_number

@@ -1,5 +1,5 @@
 use Rattle.lparse_reader.specs.Text.{number_line}
-use Rattle.lparse_reader.proofs.TextWrites.{wrote_more, lines_then, lines_cut}
+use Rattle.lparse_reader.proofs.lemmas.Writing.TextWrites.{wrote_more, lines_then, lines_cut}
 use Rattle.lparse_reader.proofs.printing.print_lines.Goals as goal
 
 pub returns-in_err-print_line : goal.returns-in_err-print_line

@@ -1,7 +1,7 @@
 use Rattle.std.proofs.Common.{get_or}
 use Rattle.std.proofs.lemmas.List.{get_or_default}
 use Rattle.lparse_reader.specs.Text.{next_field}
-use Rattle.lparse_reader.proofs.TextWrites.{wrote_more, wrote_fault}
+use Rattle.lparse_reader.proofs.lemmas.Writing.TextWrites.{wrote_more, wrote_fault}
 use Rattle.lparse_reader.proofs.printing.print_numbers.Goals as goal
 
 pub returns-in_err-print_number : goal.returns-in_err-print_number

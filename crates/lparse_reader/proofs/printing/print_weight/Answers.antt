@@ -2,7 +2,7 @@ use Rattle.std.proofs.Common.{◌∷◌, ◌++◌}
 use Rattle.byte_edges.proofs.CallerLemmas.{writes_then, writes_longer, writes_fault}
 use Rattle.lparse_reader.specs.Pieces.{body_atoms, body_weights}
 use Rattle.lparse_reader.specs.Text.{next_fields}
-use Rattle.lparse_reader.proofs.TextWrites.{counts, fields_then, fields_cut}
+use Rattle.lparse_reader.proofs.lemmas.Writing.TextWrites.{counts, fields_then, fields_cut}
 use Rattle.lparse_reader.proofs.printing.print_weight.Goals as goal
 
 pub returns-in_err-print_numbers : goal.returns-in_err-print_numbers

@@ -1,8 +1,9 @@
 use Rattle.std.proofs.Common.{get_or}
 use Rattle.std.proofs.lemmas.List.{get_or_default}
 use Rattle.byte_edges.proofs.CallerLemmas.{writes_same}
-use Rattle.lparse_reader.proofs.TextWrites.{wrote_more, wrote_fault, wrote_all, weight_field}
-use Rattle.lparse_reader.proofs.TextWrites.{fields_of_weights, no_part}
+use Rattle.lparse_reader.proofs.lemmas.Writing.TextWrites.{wrote_more, wrote_fault, wrote_all}
+use Rattle.lparse_reader.proofs.lemmas.Writing.TextWrites.{weight_field}
+use Rattle.lparse_reader.proofs.lemmas.Writing.TextWrites.{fields_of_weights, no_part}
 use Rattle.lparse_reader.proofs.printing.print_weights.Goals as goal
 
 pub returns-in_err-print_number : goal.returns-in_err-print_number

@@ -1,6 +1,7 @@
 use Rattle.std.proofs.lemmas.Result.{err_from_is_err_and}
 use Rattle.lparse_reader.specs.Fields.{counted_at, atom_at}
-use Rattle.lparse_reader.proofs.LoopLemmas.{counted_goes_on, counted_stops, counted_done}
+use Rattle.lparse_reader.proofs.lemmas.Calls.LoopLemmas.{counted_goes_on, counted_stops}
+use Rattle.lparse_reader.proofs.lemmas.Calls.LoopLemmas.{counted_done}
 use Rattle.lparse_reader.proofs.rule_text.read_atoms.Goals as goal
 
 pub returns-in_err-atom : goal.returns-in_err-atom

@@ -1,6 +1,7 @@
 use Rattle.std.proofs.lemmas.Result.{err_from_is_err_and}
 use Rattle.lparse_reader.specs.Fields.{behind, counted_at, part_at}
-use Rattle.lparse_reader.proofs.LoopLemmas.{counted_goes_on, counted_stops, counted_done}
+use Rattle.lparse_reader.proofs.lemmas.Calls.LoopLemmas.{counted_goes_on, counted_stops}
+use Rattle.lparse_reader.proofs.lemmas.Calls.LoopLemmas.{counted_done}
 use Rattle.lparse_reader.proofs.rule_text.read_parts.Goals as goal
 
 pub returns-in_err-part : goal.returns-in_err-part

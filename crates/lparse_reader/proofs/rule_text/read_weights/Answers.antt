@@ -1,7 +1,8 @@
 use Rattle.std.proofs.Common.{false}
 use Rattle.std.proofs.lemmas.Result.{err_from_is_err_and}
 use Rattle.lparse_reader.specs.Fields.{weighed_at}
-use Rattle.lparse_reader.proofs.LoopLemmas.{weighed_goes_on, weighed_stops, weighed_done}
+use Rattle.lparse_reader.proofs.lemmas.Calls.LoopLemmas.{weighed_goes_on, weighed_stops}
+use Rattle.lparse_reader.proofs.lemmas.Calls.LoopLemmas.{weighed_done}
 use Rattle.lparse_reader.proofs.rule_text.read_weights.Goals as goal
 
 pub returns-in_err-weight : goal.returns-in_err-weight

@@ -1,7 +1,8 @@
 use Rattle.lparse_reader.specs.declared.fault.ReadError.TheVariants.{ReadFault, NoMemory}
-use Rattle.lparse_reader.proofs.ParseLemmas.{source_all_read}
-use Rattle.lparse_reader.proofs.RefusalLemmas.{source_all_refused}
-use Rattle.lparse_reader.proofs.SourceLemmas.{on_text, parsed_outcome, too_long_text, any_text}
+use Rattle.lparse_reader.proofs.lemmas.Calls.ParseLemmas.{source_all_read}
+use Rattle.lparse_reader.proofs.lemmas.Refusing.RefusalLemmas.{source_all_refused}
+use Rattle.lparse_reader.proofs.lemmas.Calls.SourceLemmas.{on_text, parsed_outcome, too_long_text}
+use Rattle.lparse_reader.proofs.lemmas.Calls.SourceLemmas.{any_text}
 use Rattle.lparse_reader.proofs.source_text.read_program.Goals as goal
 
 pub returns-in-Ok-clause-outcome : goal.returns-in-Ok-clause-outcome
@@ -30,7 +31,8 @@ returns-in-Ok-clause-all_refused g c =
     (λ why line value refuses. c.parse.ensures.all_refused why line value refuses)
 
 pub returns-in-Err-TooLong-clause-outcome : goal.returns-in-Err-TooLong-clause-outcome
-returns-in-Err-TooLong-clause-outcome g c = too_long_text _ _ (c.in-Err-TooLong.ensures.too_long search)
+returns-in-Err-TooLong-clause-outcome g c =
+    too_long_text _ _ (c.in-Err-TooLong.ensures.too_long search)
 
 pub returns-in-Err-ReadFault-clause-outcome : goal.returns-in-Err-ReadFault-clause-outcome
 returns-in-Err-ReadFault-clause-outcome g c = any_text _ ReadFault (λ bytes. tt)

@@ -1,7 +1,8 @@
 use Rattle.std.proofs.Common.{ℕ, List, ◌++◌, take, sym, ap, ◌∙◌}
 use Rattle.std.proofs.lemmas.List.{append-nil, take_all}
-use Rattle.lparse_reader.proofs.TokenLemmas.{line_ends, line_none, line_goes_on, after_line_here}
-use Rattle.lparse_reader.proofs.TokenLemmas.{after_line_none, after_line_goes_on}
+use Rattle.lparse_reader.proofs.lemmas.Pieces.TokenLemmas.{line_ends, line_none, line_goes_on}
+use Rattle.lparse_reader.proofs.lemmas.Pieces.TokenLemmas.{after_line_here}
+use Rattle.lparse_reader.proofs.lemmas.Pieces.TokenLemmas.{after_line_none, after_line_goes_on}
 use Rattle.lparse_reader.proofs.symbol_text.line_split.Goals as goal
 
 pub returns-then-byte-eq10-clause-line : goal.returns-then-byte-eq10-clause-line

@@ -1,7 +1,8 @@
 use Rattle.std.proofs.Common.{length}
 use Rattle.std.proofs.lemmas.Result.{err_from_is_err_and}
 use Rattle.lparse_reader.specs.Fields.{until_end_at, entry_or_end_at}
-use Rattle.lparse_reader.proofs.LoopLemmas.{until_goes_on, until_stops, until_done, until_out}
+use Rattle.lparse_reader.proofs.lemmas.Calls.LoopLemmas.{until_goes_on, until_stops, until_done}
+use Rattle.lparse_reader.proofs.lemmas.Calls.LoopLemmas.{until_out}
 use Rattle.lparse_reader.proofs.symbol_text.read_names.Goals as goal
 
 pub returns-in_err-named : goal.returns-in_err-named

@@ -1,5 +1,6 @@
 use Rattle.std.proofs.Common.{sym, ◌∙◌, arith}
-use Rattle.lparse_reader.proofs.TokenLemmas.{trimmed_return, trimmed_done, trimmed_nothing}
+use Rattle.lparse_reader.proofs.lemmas.Pieces.TokenLemmas.{trimmed_return, trimmed_done}
+use Rattle.lparse_reader.proofs.lemmas.Pieces.TokenLemmas.{trimmed_nothing}
 use Rattle.lparse_reader.proofs.symbol_text.without_returns.Goals as goal
 
 pub returns-then-last-ne13 : goal.returns-then-last-ne13

@@ -1,5 +1,6 @@
 use Rattle.std.proofs.Common.{sym, ◌∙◌}
-use Rattle.lparse_reader.proofs.TokenLemmas.{slice_from, skipped_past, skipped_here, skipped_none}
+use Rattle.lparse_reader.proofs.lemmas.Pieces.TokenLemmas.{slice_from, skipped_past, skipped_here}
+use Rattle.lparse_reader.proofs.lemmas.Pieces.TokenLemmas.{skipped_none}
 use Rattle.lparse_reader.proofs.token_text.next_token.Goals as goal
 
 pub returns-then-not-is_between : goal.returns-then-not-is_between

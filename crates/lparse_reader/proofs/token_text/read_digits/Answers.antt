@@ -1,6 +1,7 @@
 use Rattle.std.proofs.Common.{ℕ, List, Ok, sym, ap, ◌∙◌, length}
-use Rattle.lparse_reader.proofs.TokenLemmas.{slice_from, digits_end, digits_none, digits_wrong}
-use Rattle.lparse_reader.proofs.TokenLemmas.{digits_large, digits_go_on}
+use Rattle.lparse_reader.proofs.lemmas.Pieces.TokenLemmas.{slice_from, digits_end, digits_none}
+use Rattle.lparse_reader.proofs.lemmas.Pieces.TokenLemmas.{digits_wrong}
+use Rattle.lparse_reader.proofs.lemmas.Pieces.TokenLemmas.{digits_large, digits_go_on}
 use Rattle.lparse_reader.proofs.token_text.read_digits.Goals as goal
 
 pub returns-then-is_between : goal.returns-then-is_between

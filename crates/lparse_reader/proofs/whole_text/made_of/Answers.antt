@@ -1,7 +1,7 @@
 use Rattle.std.proofs.Common.{◌≡◌, ℕ, map, ap, refl, ◌∙◌, max}
 use Rattle.std.specs.List.{flat_map}
 use Rattle.ground_program.specs.Program.{greatest, atoms_of_rule}
-use Rattle.lparse_reader.proofs.GreatestLemmas.{greatest_of_four}
+use Rattle.lparse_reader.proofs.lemmas.Calls.GreatestLemmas.{greatest_of_four}
 use Rattle.lparse_reader.proofs.whole_text.made_of.Goals as goal
 
 pub returns : goal.returns

@@ -1,5 +1,5 @@
-use Rattle.lparse_reader.proofs.ParseLemmas.{answer_reads, answer_all_read}
-use Rattle.lparse_reader.proofs.RefusalLemmas.{answer_refused, answer_all_refused}
+use Rattle.lparse_reader.proofs.lemmas.Calls.ParseLemmas.{answer_reads, answer_all_read}
+use Rattle.lparse_reader.proofs.lemmas.Refusing.RefusalLemmas.{answer_refused, answer_all_refused}
 use Rattle.lparse_reader.proofs.whole_text.parse.Goals as goal
 
 pub returns-clause-read : goal.returns-clause-read

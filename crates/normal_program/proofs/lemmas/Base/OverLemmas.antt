@@ -44,7 +44,8 @@ module _ (vars : ℕ) where
       All-contains (IsOver vars) clause (get_or (each_once clause) k d) over
       (once_from clause (get_or (each_once clause) k d) (Contains-get_or (each_once clause) k d h))
 
-  pub cleaned_over : (clauses : List (List Lit)) → AreOver vars clauses → AreOver vars (cleaned clauses)
+  pub cleaned_over : (clauses : List (List Lit)) → AreOver vars clauses
+      → AreOver vars (cleaned clauses)
   cleaned_over clauses over =
       All-filter (λ clause. not (is_tautology clause)) (All (IsOver vars)) (map each_once clauses)
       (All-map (All (IsOver vars)) each_once clauses

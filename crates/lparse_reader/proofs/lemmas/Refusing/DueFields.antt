@@ -26,14 +26,18 @@ use Rattle.lparse_reader.specs.Due.{Extra, nothing, bound, weights, Due, rules, 
 use Rattle.lparse_reader.specs.Due.{head_count, literal_count, negative_count, entries, atoms}
 use Rattle.lparse_reader.specs.Due.{after_counts, after_kind, after_number}
 use Rattle.lparse_reader.specs.Refuses.{NoToken, BadNumber, bad_value, BadValue, FailsAt}
-use Rattle.lparse_reader.proofs.NumberPieces.{bind_ok, chosen, ok_is, skipped_gap, skipped_token}
-use Rattle.lparse_reader.proofs.NumberPieces.{digit_no_separator, number_stands, number_again}
-use Rattle.lparse_reader.proofs.FieldPieces.{atom_stands, atoms_read}
-use Rattle.lparse_reader.proofs.EntryPieces.{IsEntry, entries_read, entries_again}
-use Rattle.lparse_reader.proofs.RuleAgain.{kind_or_zero, kind_stands}
-use Rattle.lparse_reader.proofs.FaultPieces.{fault_of, fault_is, bind_err, FailsNumber}
-use Rattle.lparse_reader.proofs.FaultPieces.{number_fails}
-use Rattle.lparse_reader.proofs.Follows.{Passes, passes_one, breaks_now, FollowsIn, Follows}
+use Rattle.lparse_reader.proofs.lemmas.Pieces.NumberPieces.{bind_ok, chosen, ok_is, skipped_gap}
+use Rattle.lparse_reader.proofs.lemmas.Pieces.NumberPieces.{skipped_token}
+use Rattle.lparse_reader.proofs.lemmas.Pieces.NumberPieces.{digit_no_separator, number_stands}
+use Rattle.lparse_reader.proofs.lemmas.Pieces.NumberPieces.{number_again}
+use Rattle.lparse_reader.proofs.lemmas.Pieces.FieldPieces.{atom_stands, atoms_read}
+use Rattle.lparse_reader.proofs.lemmas.Pieces.EntryPieces.{IsEntry, entries_read, entries_again}
+use Rattle.lparse_reader.proofs.lemmas.Pieces.RuleAgain.{kind_or_zero, kind_stands}
+use Rattle.lparse_reader.proofs.lemmas.Refusing.FaultPieces.{fault_of, fault_is, bind_err}
+use Rattle.lparse_reader.proofs.lemmas.Refusing.FaultPieces.{FailsNumber}
+use Rattle.lparse_reader.proofs.lemmas.Refusing.FaultPieces.{number_fails}
+use Rattle.lparse_reader.proofs.lemmas.Refusing.Follows.{Passes, passes_one, breaks_now, FollowsIn}
+use Rattle.lparse_reader.proofs.lemmas.Refusing.Follows.{Follows}
 
 -- the token of a number begins behind the separators
 token_here : (value : ℕ) (bytes gap token rest : List ℕ) → IsGap gap → 1 ≤ length token

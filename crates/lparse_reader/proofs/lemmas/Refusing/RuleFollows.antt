@@ -20,13 +20,17 @@ use Rattle.lparse_reader.specs.Reading.{rule_or_end_at, kind_or_end_at}
 use Rattle.lparse_reader.specs.Due.{Extra, nothing, bound, weights, Due, rules, atom, any_number}
 use Rattle.lparse_reader.specs.Due.{head_count, literal_count, negative_count, after_counts}
 use Rattle.lparse_reader.specs.Refuses.{FailsAt}
-use Rattle.lparse_reader.proofs.BodyPieces.{counts_stand, body_stands}
-use Rattle.lparse_reader.proofs.FaultPieces.{fault_of, fault_is}
-use Rattle.lparse_reader.proofs.Follows.{breaks_now, FollowsIn, Follows, follows_then, follows_done}
-use Rattle.lparse_reader.proofs.Follows.{follows_behind, follows_counted}
-use Rattle.lparse_reader.proofs.DueFields.{any_follows, head_count_follows, literals_follow}
-use Rattle.lparse_reader.proofs.DueFields.{atom_follows, or_none, kind_due, kind_or_none}
-use Rattle.lparse_reader.proofs.DueFields.{kinds_follow, counts_end, negatives_follow}
+use Rattle.lparse_reader.proofs.lemmas.Pieces.BodyPieces.{counts_stand, body_stands}
+use Rattle.lparse_reader.proofs.lemmas.Refusing.FaultPieces.{fault_of, fault_is}
+use Rattle.lparse_reader.proofs.lemmas.Refusing.Follows.{breaks_now, FollowsIn, Follows}
+use Rattle.lparse_reader.proofs.lemmas.Refusing.Follows.{follows_then, follows_done}
+use Rattle.lparse_reader.proofs.lemmas.Refusing.Follows.{follows_behind, follows_counted}
+use Rattle.lparse_reader.proofs.lemmas.Refusing.DueFields.{any_follows, head_count_follows}
+use Rattle.lparse_reader.proofs.lemmas.Refusing.DueFields.{literals_follow}
+use Rattle.lparse_reader.proofs.lemmas.Refusing.DueFields.{atom_follows, or_none, kind_due}
+use Rattle.lparse_reader.proofs.lemmas.Refusing.DueFields.{kind_or_none}
+use Rattle.lparse_reader.proofs.lemmas.Refusing.DueFields.{kinds_follow, counts_end}
+use Rattle.lparse_reader.proofs.lemmas.Refusing.DueFields.{negatives_follow}
 
 -- the same of what is due under another spelling
 pub follows_same : {A : Type 0} (bytes : List ℕ) (read : Result (A × List ℕ) Fault)

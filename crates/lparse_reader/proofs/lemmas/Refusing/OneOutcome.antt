@@ -20,14 +20,17 @@ use Rattle.lparse_reader.specs.Due.{negative_count, entries, sign, atoms, models
 use Rattle.lparse_reader.specs.Due.{after_entry, after_mark_of, after_item, run}
 use Rattle.lparse_reader.specs.Refuses.{NoToken, BadNumber, bad_value, BadValue, NoName, NoMark}
 use Rattle.lparse_reader.specs.Refuses.{External, BadModels, Trailing, FailsAt, FailsNext, IsItem}
-use Rattle.lparse_reader.proofs.NumberPieces.{ok_is, skipped_gap, skipped_token, number_again}
-use Rattle.lparse_reader.proofs.RowPieces.{piece_shrinks}
-use Rattle.lparse_reader.proofs.FieldPieces.{mark_stands, mark_again, models_again, end_again}
-use Rattle.lparse_reader.proofs.EntryPieces.{IsEntry, entries_read, entries_again}
-use Rattle.lparse_reader.proofs.FaultPieces.{fault_of, fault_is, FailsNumber, number_fails_again}
-use Rattle.lparse_reader.proofs.FaultPieces.{no_token_again}
-use Rattle.lparse_reader.proofs.DueFields.{stands_here, name_fault}
-use Rattle.lparse_reader.proofs.WholeFollows.{eqb_same, mark_fault, external_here}
+use Rattle.lparse_reader.proofs.lemmas.Pieces.NumberPieces.{ok_is, skipped_gap, skipped_token}
+use Rattle.lparse_reader.proofs.lemmas.Pieces.NumberPieces.{number_again}
+use Rattle.lparse_reader.proofs.lemmas.Pieces.RowPieces.{piece_shrinks}
+use Rattle.lparse_reader.proofs.lemmas.Pieces.FieldPieces.{mark_stands, mark_again, models_again}
+use Rattle.lparse_reader.proofs.lemmas.Pieces.FieldPieces.{end_again}
+use Rattle.lparse_reader.proofs.lemmas.Pieces.EntryPieces.{IsEntry, entries_read, entries_again}
+use Rattle.lparse_reader.proofs.lemmas.Refusing.FaultPieces.{fault_of, fault_is, FailsNumber}
+use Rattle.lparse_reader.proofs.lemmas.Refusing.FaultPieces.{number_fails_again}
+use Rattle.lparse_reader.proofs.lemmas.Refusing.FaultPieces.{no_token_again}
+use Rattle.lparse_reader.proofs.lemmas.Refusing.DueFields.{stands_here, name_fault}
+use Rattle.lparse_reader.proofs.lemmas.Refusing.WholeFollows.{eqb_same, mark_fault, external_here}
 
 -- ---- what is due, read as one function
 

@@ -18,16 +18,20 @@ use Rattle.lparse_reader.specs.Fields.{end_at}
 use Rattle.lparse_reader.specs.Reading.{rule_or_end_at, all_at, made, program_at}
 use Rattle.lparse_reader.specs.Pieces.{Item, number, mark, IsGap, PieceRow, numbers, rule_items}
 use Rattle.lparse_reader.specs.Pieces.{entry_item, Reads}
-use Rattle.lparse_reader.proofs.NumberPieces.{bind_ok, ok_is}
-use Rattle.lparse_reader.proofs.RowPieces.{row_shrinks, row_join, row_split, mark_shrinks, UpToEnd}
-use Rattle.lparse_reader.proofs.RowPieces.{until_stands, until_again}
-use Rattle.lparse_reader.proofs.FieldPieces.{IsAtom, atom_items, atoms_read, atoms_again}
-use Rattle.lparse_reader.proofs.FieldPieces.{mark_stands, mark_again, models_stands, models_again}
-use Rattle.lparse_reader.proofs.FieldPieces.{end_stands, end_again}
-use Rattle.lparse_reader.proofs.EntryPieces.{IsEntry, entry_items, entries_read, entries_again}
-use Rattle.lparse_reader.proofs.BodyPieces.{AreAtoms}
-use Rattle.lparse_reader.proofs.RulePieces.{IsReadRule}
-use Rattle.lparse_reader.proofs.RuleAgain.{rules_read, rules_again}
+use Rattle.lparse_reader.proofs.lemmas.Pieces.NumberPieces.{bind_ok, ok_is}
+use Rattle.lparse_reader.proofs.lemmas.Pieces.RowPieces.{row_shrinks, row_join, row_split}
+use Rattle.lparse_reader.proofs.lemmas.Pieces.RowPieces.{mark_shrinks, UpToEnd}
+use Rattle.lparse_reader.proofs.lemmas.Pieces.RowPieces.{until_stands, until_again}
+use Rattle.lparse_reader.proofs.lemmas.Pieces.FieldPieces.{IsAtom, atom_items, atoms_read}
+use Rattle.lparse_reader.proofs.lemmas.Pieces.FieldPieces.{atoms_again}
+use Rattle.lparse_reader.proofs.lemmas.Pieces.FieldPieces.{mark_stands, mark_again, models_stands}
+use Rattle.lparse_reader.proofs.lemmas.Pieces.FieldPieces.{models_again}
+use Rattle.lparse_reader.proofs.lemmas.Pieces.FieldPieces.{end_stands, end_again}
+use Rattle.lparse_reader.proofs.lemmas.Pieces.EntryPieces.{IsEntry, entry_items, entries_read}
+use Rattle.lparse_reader.proofs.lemmas.Pieces.EntryPieces.{entries_again}
+use Rattle.lparse_reader.proofs.lemmas.Pieces.BodyPieces.{AreAtoms}
+use Rattle.lparse_reader.proofs.lemmas.Pieces.RulePieces.{IsReadRule}
+use Rattle.lparse_reader.proofs.lemmas.Pieces.RuleAgain.{rules_read, rules_again}
 
 -- ---- rows of one list behind another
 

@@ -13,8 +13,8 @@ use Rattle.lparse_reader.specs.Refusal.{IsReadAnswer, told}
 use Rattle.lparse_reader.specs.Due.{whole}
 use Rattle.lparse_reader.specs.Refuses.{Breaks, Refuses, IsRefused, IsTextUnlessNoMemory}
 use Rattle.lparse_reader.specs.Refuses.{IsTextUnlessSource}
-use Rattle.lparse_reader.proofs.WholeFollows.{program_passes, program_breaks}
-use Rattle.lparse_reader.proofs.OneOutcome.{same_outcome}
+use Rattle.lparse_reader.proofs.lemmas.Refusing.WholeFollows.{program_passes, program_breaks}
+use Rattle.lparse_reader.proofs.lemmas.Refusing.OneOutcome.{same_outcome}
 
 pub answer_refused : (bytes : List ℕ) (result : Result Program ReadError) → length bytes ≤ 67108864
     → IsReadAnswer bytes result (program_at bytes) → IfErr result (IsRefused bytes)

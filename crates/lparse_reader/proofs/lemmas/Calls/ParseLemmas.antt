@@ -11,7 +11,7 @@ use Rattle.lparse_reader.specs.Reading.{program_at}
 use Rattle.lparse_reader.specs.Refusal.{IsReadAnswer, IsProgramUnlessNoMemory}
 use Rattle.lparse_reader.specs.Refusal.{IsProgramUnlessSource}
 use Rattle.lparse_reader.specs.Pieces.{Reads}
-use Rattle.lparse_reader.proofs.WholePieces.{reads_program, program_again}
+use Rattle.lparse_reader.proofs.lemmas.Pieces.WholePieces.{reads_program, program_again}
 
 pub answer_reads : (bytes : List ℕ) (result : Result Program ReadError) → length bytes ≤ 67108864
     → IsReadAnswer bytes result (program_at bytes) → IfOk result (Reads bytes)

@@ -21,10 +21,11 @@ use Rattle.lparse_reader.specs.Pieces.{numbers, rule_items, entry_item, program_
 use Rattle.lparse_reader.specs.Text.{number_line, entry_line, rule_line, ended_lines, marked_atoms}
 use Rattle.lparse_reader.specs.Text.{text}
 use Rattle.lparse_reader.specs.Reading.{program_at}
-use Rattle.lparse_reader.proofs.NumberPieces.{ok_is}
-use Rattle.lparse_reader.proofs.WholePieces.{program_again}
-use Rattle.lparse_reader.proofs.TextRows.{Spells, spells_then, number_spells, entry_spells}
-use Rattle.lparse_reader.proofs.TextRows.{mark_spells, line_spells, ended_spells}
+use Rattle.lparse_reader.proofs.lemmas.Pieces.NumberPieces.{ok_is}
+use Rattle.lparse_reader.proofs.lemmas.Pieces.WholePieces.{program_again}
+use Rattle.lparse_reader.proofs.lemmas.Writing.TextRows.{Spells, spells_then, number_spells}
+use Rattle.lparse_reader.proofs.lemmas.Writing.TextRows.{entry_spells}
+use Rattle.lparse_reader.proofs.lemmas.Writing.TextRows.{mark_spells, line_spells, ended_spells}
 
 -- ---- facts on each item of a list
 

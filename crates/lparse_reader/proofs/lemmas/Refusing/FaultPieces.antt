@@ -13,7 +13,8 @@ use Rattle.lparse_reader.specs.Tokens.{is_separator, skipped}
 use Rattle.lparse_reader.specs.Fields.{◌>>=◌, digits_at, number_here, number_at}
 use Rattle.lparse_reader.specs.Pieces.{IsGap, value_of}
 use Rattle.lparse_reader.specs.Refuses.{NoToken, IsWrong, BadNumber}
-use Rattle.lparse_reader.proofs.NumberPieces.{skipped_gap, skips, skipped_token, digit_no_separator}
+use Rattle.lparse_reader.proofs.lemmas.Pieces.NumberPieces.{skipped_gap, skips, skipped_token}
+use Rattle.lparse_reader.proofs.lemmas.Pieces.NumberPieces.{digit_no_separator}
 
 abbrev pub fault_of : {A : Type 0} → Fault → Result A Fault
 fault_of fault = Err fault

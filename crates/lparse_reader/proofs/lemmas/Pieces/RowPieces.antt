@@ -7,7 +7,7 @@ use Rattle.std.proofs.lemmas.List.{length-append}
 use Rattle.lparse_reader.specs.Fields.{Field, behind, counted_at, before_end, until_end_at}
 use Rattle.lparse_reader.specs.Pieces.{Item, number, entry, mark, StandsNumber, StandsMark}
 use Rattle.lparse_reader.specs.Pieces.{StandsEntry, Stands, PieceRow}
-use Rattle.lparse_reader.proofs.NumberPieces.{bind_ok, ok_is}
+use Rattle.lparse_reader.proofs.lemmas.Pieces.NumberPieces.{bind_ok, ok_is}
 
 -- ---- lengths
 

@@ -16,10 +16,13 @@ use Rattle.lparse_reader.specs.Tokens.{skipped, is_token_end}
 use Rattle.lparse_reader.specs.Fields.{number_at, atom_at, atom_or_end_at, part_at, is_mark}
 use Rattle.lparse_reader.specs.Fields.{mark_here, mark_at, is_external, models_at, end_here, end_at}
 use Rattle.lparse_reader.specs.Pieces.{Item, number, IsGap, StandsNumber, StandsMark}
-use Rattle.lparse_reader.proofs.NumberPieces.{bind_ok, chosen, ok_is, both, skipped_gap, skips}
-use Rattle.lparse_reader.proofs.NumberPieces.{skipped_token, digit_range, digit_no_separator}
-use Rattle.lparse_reader.proofs.NumberPieces.{number_stands, number_again}
-use Rattle.lparse_reader.proofs.RowPieces.{ReadsItem, ReadAgain, ReadsItems, ReadsAgain}
+use Rattle.lparse_reader.proofs.lemmas.Pieces.NumberPieces.{bind_ok, chosen, ok_is, both}
+use Rattle.lparse_reader.proofs.lemmas.Pieces.NumberPieces.{skipped_gap, skips}
+use Rattle.lparse_reader.proofs.lemmas.Pieces.NumberPieces.{skipped_token, digit_range}
+use Rattle.lparse_reader.proofs.lemmas.Pieces.NumberPieces.{digit_no_separator}
+use Rattle.lparse_reader.proofs.lemmas.Pieces.NumberPieces.{number_stands, number_again}
+use Rattle.lparse_reader.proofs.lemmas.Pieces.RowPieces.{ReadsItem, ReadAgain, ReadsItems}
+use Rattle.lparse_reader.proofs.lemmas.Pieces.RowPieces.{ReadsAgain}
 
 -- ---- atoms
 

@@ -17,20 +17,26 @@ use Rattle.lparse_reader.specs.Reading.{rule_or_end_at, all_at, program_at}
 use Rattle.lparse_reader.specs.Pieces.{number, entry, mark, IsGap, rule_items}
 use Rattle.lparse_reader.specs.Due.{Due, rules, entries, sign, atoms, models, whole}
 use Rattle.lparse_reader.specs.Refuses.{NoToken, External, Trailing, FailsAt, Breaks}
-use Rattle.lparse_reader.proofs.NumberPieces.{bind_ok, chosen, both, skipped_gap, skipped_token}
-use Rattle.lparse_reader.proofs.NumberPieces.{skips, token_begins}
-use Rattle.lparse_reader.proofs.RowPieces.{row_shrinks}
-use Rattle.lparse_reader.proofs.FieldPieces.{atoms_read, mark_stands, mark_again, models_stands}
-use Rattle.lparse_reader.proofs.FieldPieces.{end_stands}
-use Rattle.lparse_reader.proofs.EntryPieces.{entries_read}
-use Rattle.lparse_reader.proofs.RuleAgain.{rules_read}
-use Rattle.lparse_reader.proofs.WholePieces.{after_end, after_models, after_must_not, after_minus}
-use Rattle.lparse_reader.proofs.WholePieces.{after_must, after_plus, after_names, after_rules}
-use Rattle.lparse_reader.proofs.FaultPieces.{fault_is, bind_err, no_token, number_fails}
-use Rattle.lparse_reader.proofs.Follows.{Passes, passes_shrinks, passes_none, passes_one}
-use Rattle.lparse_reader.proofs.Follows.{passes_then, breaks_now, breaks_then}
-use Rattle.lparse_reader.proofs.DueFields.{atoms_follow, entries_follow}
-use Rattle.lparse_reader.proofs.RuleFollows.{rules_follow, Takes, until_follows}
+use Rattle.lparse_reader.proofs.lemmas.Pieces.NumberPieces.{bind_ok, chosen, both, skipped_gap}
+use Rattle.lparse_reader.proofs.lemmas.Pieces.NumberPieces.{skipped_token}
+use Rattle.lparse_reader.proofs.lemmas.Pieces.NumberPieces.{skips, token_begins}
+use Rattle.lparse_reader.proofs.lemmas.Pieces.RowPieces.{row_shrinks}
+use Rattle.lparse_reader.proofs.lemmas.Pieces.FieldPieces.{atoms_read, mark_stands, mark_again}
+use Rattle.lparse_reader.proofs.lemmas.Pieces.FieldPieces.{models_stands}
+use Rattle.lparse_reader.proofs.lemmas.Pieces.FieldPieces.{end_stands}
+use Rattle.lparse_reader.proofs.lemmas.Pieces.EntryPieces.{entries_read}
+use Rattle.lparse_reader.proofs.lemmas.Pieces.RuleAgain.{rules_read}
+use Rattle.lparse_reader.proofs.lemmas.Pieces.WholePieces.{after_end, after_models, after_must_not}
+use Rattle.lparse_reader.proofs.lemmas.Pieces.WholePieces.{after_minus}
+use Rattle.lparse_reader.proofs.lemmas.Pieces.WholePieces.{after_must, after_plus, after_names}
+use Rattle.lparse_reader.proofs.lemmas.Pieces.WholePieces.{after_rules}
+use Rattle.lparse_reader.proofs.lemmas.Refusing.FaultPieces.{fault_is, bind_err, no_token}
+use Rattle.lparse_reader.proofs.lemmas.Refusing.FaultPieces.{number_fails}
+use Rattle.lparse_reader.proofs.lemmas.Refusing.Follows.{Passes, passes_shrinks, passes_none}
+use Rattle.lparse_reader.proofs.lemmas.Refusing.Follows.{passes_one}
+use Rattle.lparse_reader.proofs.lemmas.Refusing.Follows.{passes_then, breaks_now, breaks_then}
+use Rattle.lparse_reader.proofs.lemmas.Refusing.DueFields.{atoms_follow, entries_follow}
+use Rattle.lparse_reader.proofs.lemmas.Refusing.RuleFollows.{rules_follow, Takes, until_follows}
 
 pub eqb_same : (n : ℕ) → eqb n n ≡ true
 eqb_same n = go n (eqb n n) refl

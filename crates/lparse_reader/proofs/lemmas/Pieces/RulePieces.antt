@@ -18,14 +18,18 @@ use Rattle.lparse_reader.specs.Reading.{counts_at, body_at, heads_at, basic_at, 
 use Rattle.lparse_reader.specs.Reading.{weight_at, many_heads_at, rule_at}
 use Rattle.lparse_reader.specs.Pieces.{Item, number, StandsNumber, PieceRow, body_atoms}
 use Rattle.lparse_reader.specs.Pieces.{body_weights, negatives, numbers, numbers_of_kind}
-use Rattle.lparse_reader.proofs.NumberPieces.{bind_ok, ok_is, number_stands}
-use Rattle.lparse_reader.proofs.RowPieces.{row_join}
-use Rattle.lparse_reader.proofs.FieldPieces.{IsAtom, atom_stands}
-use Rattle.lparse_reader.proofs.BodyPieces.{ReadCounts, counts_stand, heads_stand, Ordered}
-use Rattle.lparse_reader.proofs.BodyPieces.{first_from_ordered, AreOnes, AreAtoms, ReadBody}
-use Rattle.lparse_reader.proofs.BodyPieces.{body_stands, plain, weights_stand, plain_atoms}
-use Rattle.lparse_reader.proofs.BodyPieces.{plain_negatives, plain_length, atoms_of_plain}
-use Rattle.lparse_reader.proofs.BodyPieces.{ordered_of_plain}
+use Rattle.lparse_reader.proofs.lemmas.Pieces.NumberPieces.{bind_ok, ok_is, number_stands}
+use Rattle.lparse_reader.proofs.lemmas.Pieces.RowPieces.{row_join}
+use Rattle.lparse_reader.proofs.lemmas.Pieces.FieldPieces.{IsAtom, atom_stands}
+use Rattle.lparse_reader.proofs.lemmas.Pieces.BodyPieces.{ReadCounts, counts_stand, heads_stand}
+use Rattle.lparse_reader.proofs.lemmas.Pieces.BodyPieces.{Ordered}
+use Rattle.lparse_reader.proofs.lemmas.Pieces.BodyPieces.{first_from_ordered, AreOnes, AreAtoms}
+use Rattle.lparse_reader.proofs.lemmas.Pieces.BodyPieces.{ReadBody}
+use Rattle.lparse_reader.proofs.lemmas.Pieces.BodyPieces.{body_stands, plain, weights_stand}
+use Rattle.lparse_reader.proofs.lemmas.Pieces.BodyPieces.{plain_atoms}
+use Rattle.lparse_reader.proofs.lemmas.Pieces.BodyPieces.{plain_negatives, plain_length}
+use Rattle.lparse_reader.proofs.lemmas.Pieces.BodyPieces.{atoms_of_plain}
+use Rattle.lparse_reader.proofs.lemmas.Pieces.BodyPieces.{ordered_of_plain}
 
 -- a rule of the format, each of whose atoms is one
 pub record IsReadRule (rule : Rule) : Type 0 where

@@ -22,15 +22,18 @@ use Rattle.lparse_reader.specs.Reading.{rule_or_end_at}
 use Rattle.lparse_reader.specs.Pieces.{Item, number, StandsNumber, PieceRow, body_atoms}
 use Rattle.lparse_reader.specs.Pieces.{body_weights, negatives, numbers, kind_number}
 use Rattle.lparse_reader.specs.Pieces.{numbers_of_kind, rule_items}
-use Rattle.lparse_reader.proofs.NumberPieces.{bind_ok, ok_is, number_stands, number_again}
-use Rattle.lparse_reader.proofs.RowPieces.{row_split, ReadsItems, ReadsAgain}
-use Rattle.lparse_reader.proofs.FieldPieces.{atom_again}
-use Rattle.lparse_reader.proofs.BodyPieces.{counts_of, counts_again, heads_again}
-use Rattle.lparse_reader.proofs.BodyPieces.{ordered_from_first, AreOnes, body_again, negatives_few}
-use Rattle.lparse_reader.proofs.BodyPieces.{plain, weights_again, plain_atoms, plain_negatives}
-use Rattle.lparse_reader.proofs.BodyPieces.{plain_length, plain_ones, plain_are_atoms}
-use Rattle.lparse_reader.proofs.BodyPieces.{plain_ordered}
-use Rattle.lparse_reader.proofs.RulePieces.{IsReadRule, rule_stands}
+use Rattle.lparse_reader.proofs.lemmas.Pieces.NumberPieces.{bind_ok, ok_is, number_stands}
+use Rattle.lparse_reader.proofs.lemmas.Pieces.NumberPieces.{number_again}
+use Rattle.lparse_reader.proofs.lemmas.Pieces.RowPieces.{row_split, ReadsItems, ReadsAgain}
+use Rattle.lparse_reader.proofs.lemmas.Pieces.FieldPieces.{atom_again}
+use Rattle.lparse_reader.proofs.lemmas.Pieces.BodyPieces.{counts_of, counts_again, heads_again}
+use Rattle.lparse_reader.proofs.lemmas.Pieces.BodyPieces.{ordered_from_first, AreOnes, body_again}
+use Rattle.lparse_reader.proofs.lemmas.Pieces.BodyPieces.{negatives_few}
+use Rattle.lparse_reader.proofs.lemmas.Pieces.BodyPieces.{plain, weights_again, plain_atoms}
+use Rattle.lparse_reader.proofs.lemmas.Pieces.BodyPieces.{plain_negatives}
+use Rattle.lparse_reader.proofs.lemmas.Pieces.BodyPieces.{plain_length, plain_ones, plain_are_atoms}
+use Rattle.lparse_reader.proofs.lemmas.Pieces.BodyPieces.{plain_ordered}
+use Rattle.lparse_reader.proofs.lemmas.Pieces.RulePieces.{IsReadRule, rule_stands}
 
 abbrev made : Kind → List ℕ → ℕ → List Weighted → Rule
 made kind heads bound body = record { kind = kind; heads = heads; bound = bound; body = body }

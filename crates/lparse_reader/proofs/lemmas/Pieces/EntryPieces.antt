@@ -16,10 +16,11 @@ use Rattle.lparse_reader.specs.declared.fault.TextFault.TheVariants.{NameMissing
 use Rattle.lparse_reader.specs.Tokens.{skipped, line_of, after_line, put_before, trimmed}
 use Rattle.lparse_reader.specs.Fields.{number_at, entry_of, name_at, entry_or_end_at}
 use Rattle.lparse_reader.specs.Pieces.{Item, StandsNumber, StandsEntry, IsLineEnd, entry_item}
-use Rattle.lparse_reader.proofs.TokenLemmas.{trimmed_done}
-use Rattle.lparse_reader.proofs.NumberPieces.{bind_ok, chosen, ok_is, number_stands, number_again}
-use Rattle.lparse_reader.proofs.RowPieces.{ReadsItems, ReadsAgain, number_shrinks}
-use Rattle.lparse_reader.proofs.FieldPieces.{IsAtom}
+use Rattle.lparse_reader.proofs.lemmas.Pieces.TokenLemmas.{trimmed_done}
+use Rattle.lparse_reader.proofs.lemmas.Pieces.NumberPieces.{bind_ok, chosen, ok_is, number_stands}
+use Rattle.lparse_reader.proofs.lemmas.Pieces.NumberPieces.{number_again}
+use Rattle.lparse_reader.proofs.lemmas.Pieces.RowPieces.{ReadsItems, ReadsAgain, number_shrinks}
+use Rattle.lparse_reader.proofs.lemmas.Pieces.FieldPieces.{IsAtom}
 
 -- ---- a line and what follows it
 

@@ -10,9 +10,9 @@ use Rattle.lparse_reader.specs.Fields.{◌>>=◌, Field, behind, counted_at}
 use Rattle.lparse_reader.specs.Pieces.{Item, Stands, PieceRow}
 use Rattle.lparse_reader.specs.Due.{Due, after_item, run}
 use Rattle.lparse_reader.specs.Refuses.{FailsNext, IsItem, Breaks}
-use Rattle.lparse_reader.proofs.NumberPieces.{bind_ok, ok_is}
-use Rattle.lparse_reader.proofs.RowPieces.{row_join, row_shrinks}
-use Rattle.lparse_reader.proofs.FaultPieces.{bind_err}
+use Rattle.lparse_reader.proofs.lemmas.Pieces.NumberPieces.{bind_ok, ok_is}
+use Rattle.lparse_reader.proofs.lemmas.Pieces.RowPieces.{row_join, row_shrinks}
+use Rattle.lparse_reader.proofs.lemmas.Refusing.FaultPieces.{bind_err}
 
 -- some fields of those that are due stand one after the other, and these are due then
 pub record Passes (agenda : List Due) (bytes : List ℕ) (left : List Due) (rest : List ℕ) :

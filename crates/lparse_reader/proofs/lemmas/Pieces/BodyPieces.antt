@@ -21,10 +21,13 @@ use Rattle.lparse_reader.specs.Fields.{weighed_at}
 use Rattle.lparse_reader.specs.Reading.{counts_at, body_at, heads_at}
 use Rattle.lparse_reader.specs.Pieces.{Item, number, StandsNumber, PieceRow, body_atoms}
 use Rattle.lparse_reader.specs.Pieces.{body_weights, negatives, numbers}
-use Rattle.lparse_reader.proofs.NumberPieces.{bind_ok, chosen, ok_is, number_stands, number_again}
-use Rattle.lparse_reader.proofs.RowPieces.{counted_stands, counted_again, row_join, row_split}
-use Rattle.lparse_reader.proofs.FieldPieces.{IsAtom, IsWeightedPart, part_item, atom_stands}
-use Rattle.lparse_reader.proofs.FieldPieces.{atom_again, part_stands, part_again}
+use Rattle.lparse_reader.proofs.lemmas.Pieces.NumberPieces.{bind_ok, chosen, ok_is, number_stands}
+use Rattle.lparse_reader.proofs.lemmas.Pieces.NumberPieces.{number_again}
+use Rattle.lparse_reader.proofs.lemmas.Pieces.RowPieces.{counted_stands, counted_again, row_join}
+use Rattle.lparse_reader.proofs.lemmas.Pieces.RowPieces.{row_split}
+use Rattle.lparse_reader.proofs.lemmas.Pieces.FieldPieces.{IsAtom, IsWeightedPart, part_item}
+use Rattle.lparse_reader.proofs.lemmas.Pieces.FieldPieces.{atom_stands}
+use Rattle.lparse_reader.proofs.lemmas.Pieces.FieldPieces.{atom_again, part_stands, part_again}
 
 -- ---- the number of literals and of negatives
 

@@ -11,10 +11,10 @@ use Rattle.lparse_reader.specs.Tokens.{line_at}
 use Rattle.lparse_reader.specs.Reading.{program_at}
 use Rattle.lparse_reader.specs.Refusal.{told}
 use Rattle.lparse_reader.specs.TextLaws.{OnlyReads, OnlyRefuses, HasOneOutcome, EachHasOneOutcome}
-use Rattle.lparse_reader.proofs.WholePieces.{reads_program, program_again}
-use Rattle.lparse_reader.proofs.WholeFollows.{program_breaks}
-use Rattle.lparse_reader.proofs.ParseLemmas.{some_program, no_fault}
-use Rattle.lparse_reader.proofs.RefusalLemmas.{one_fault, no_program}
+use Rattle.lparse_reader.proofs.lemmas.Pieces.WholePieces.{reads_program, program_again}
+use Rattle.lparse_reader.proofs.lemmas.Refusing.WholeFollows.{program_breaks}
+use Rattle.lparse_reader.proofs.lemmas.Calls.ParseLemmas.{some_program, no_fault}
+use Rattle.lparse_reader.proofs.lemmas.Refusing.RefusalLemmas.{one_fault, no_program}
 
 same_text : (cause why : TextFault) (at line number value : ℕ)
     → Text cause at number ≡ Text why line value
