@@ -5,7 +5,7 @@
 ghost use Rattle.ground_program.specs.Program.{IsProgram};
 
 use byte_edges::StdSource;
-use clause_store::{NoMemory, Store};
+use clause_store::Store;
 use completion::complete;
 use ground_program::Program;
 use lparse_reader::read_program;
@@ -31,16 +31,16 @@ fn main(rt: HostRuntime) -> ExitCode {
         return ExitCode::from(3);
     };
     let made = match phase {
-        Phase::Read => Ok(program.rules.len()),
+        Phase::Read => Some(program.rules.len()),
         Phase::Normalise => bodies_of(rt.alloc(), &program),
         Phase::Complete => clauses_of(rt.alloc(), &program),
     };
-    match made {
-        Ok(count) => match println!(rt; "{count}") {
-            Ok(()) => ExitCode::from(0),
-            Err(_) => ExitCode::from(6),
-        },
-        Err(_) => ExitCode::from(7),
+    let Some(count) = made else {
+        return ExitCode::from(7);
+    };
+    match println!(rt; "{count}") {
+        Ok(()) => ExitCode::from(0),
+        Err(_) => ExitCode::from(6),
     }
 }
 
@@ -57,24 +57,20 @@ fn phase_of(rt: &HostRuntime) -> io::Result<Phase> {
     Ok(Phase::Complete)
 }
 
-// The number of bodies of a program's normal form.
-fn bodies_of(alloc: Global, program: &Program) -> Result<usize, NoMemory>
+// The number of bodies of a program's normal form. None is want of memory, or too many variables.
+fn bodies_of(alloc: Global, program: &Program) -> Option<usize>
     requires { IsProgram program.now }
 {
-    match normalise(alloc, program) {
-        Ok(normal) => Ok(normal.bodies.len()),
-        Err(_) => Err(NoMemory),
-    }
+    let normal = normalise(alloc, program).ok()?;
+    Some(normal.bodies.len())
 }
 
 // The number of base clauses of a program's normal form.
-fn clauses_of(alloc: Global, program: &Program) -> Result<usize, NoMemory>
+fn clauses_of(alloc: Global, program: &Program) -> Option<usize>
     requires { IsProgram program.now }
 {
-    let Ok(normal) = normalise(alloc, program) else {
-        return Err(NoMemory);
-    };
+    let normal = normalise(alloc, program).ok()?;
     let mut store = Store::open();
-    complete(alloc, &normal, &mut store)?;
-    Ok(store.len())
+    complete(alloc, &normal, &mut store).ok()?;
+    Some(store.len())
 }
