@@ -45,7 +45,7 @@ pub enum Kind {
 }
 
 /// An atom or its negation.
-#[derive(Debug, Drop, Clone, Copy, PartialEq, Eq)]
+#[derive(Debug, Drop, Clone, Copy, PartialEq, Eq, Hash)]
 pub struct AtomLit {
     /// The atom, at least 1.
     pub atom: u32,

@@ -116,16 +116,17 @@ impl<T: Copy> List<T> {
 }
 
 impl<T: Copied + Drop> List<T> {
-    /// The same list again.
+    /// The same list again. It takes memory for the list once, beside what the items take.
     pub fn copy(&self, alloc: Global) -> Result<List<T>, NoMemory>
         ensures { IfOk result (λ it. it ≡ self.now) }
     {
-        let mut made = List::open();
-        for item in self.as_slice() {
+        let items = self.as_slice();
+        let mut held = Vec::with_capacity(alloc, items.len())?;
+        for item in items {
             let again = item.copied(alloc)?;
-            made.push(alloc, again)?;
+            held.push(again)?;
         }
-        Ok(made)
+        Ok(List { held: Some(held) })
     }
 }
 

@@ -15,7 +15,7 @@ pub type Bodies = List<BodyOf>;
 pub type NormalRules = List<NormalRule>;
 
 /// A literal of a normal body with the sum of its weights.
-#[derive(Debug, Drop, Clone, Copy)]
+#[derive(Debug, Drop, Clone, Copy, PartialEq, Eq, Hash)]
 pub struct Part {
     /// The literal.
     pub lit: AtomLit,
@@ -24,7 +24,7 @@ pub struct Part {
 }
 
 /// A body: each literal once, by atom and then the negative one first.
-#[derive(Debug, Drop)]
+#[derive(Debug, Drop, PartialEq, Eq, Hash)]
 pub struct BodyOf {
     /// What the weights must reach.
     pub bound: u32,

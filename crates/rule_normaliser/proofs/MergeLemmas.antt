@@ -1,10 +1,10 @@
 -- What one more literal makes of the merged parts of those before it.
 use Rattle.std.proofs.Common.{◌≡◌, ◌≢◌, ◌≤◌, ◌<◌, ◌+◌, ◌-◌, ◌*◌, ℕ, Bool, true, false, List, []}
-use Rattle.std.proofs.Common.{◌∷◌, ◌++◌, length, get_or, set, map, All, Any, refl, sym, ap, subst}
+use Rattle.std.proofs.Common.{◌∷◌, ◌++◌, length, get_or, set, All, Any, sym, ap, subst}
 use Rattle.std.proofs.Common.{◌∙◌, arith, add-zero, if◌then◌else◌, ⊎_elim, length-set}
 use Rattle.std.proofs.Common.{get_or-set_same, get_or-set_other, get_or-take, length-take-le, take}
 use Rattle.std.proofs.lemmas.Bool.{eq-eqb, ne_eqb, cases_eq}
-use Rattle.std.proofs.lemmas.List.{map_push, map-set, get_or-map, get_or_default, length-map}
+use Rattle.std.proofs.lemmas.List.{get_or_default}
 use Rattle.std.proofs.lemmas.List.Elements.{All-push}
 use Rattle.std.proofs.lemmas.List.Quantifiers.{Any-push, all_pairs_push}
 use Rattle.std.proofs.lemmas.List.Sums.{sum_by_push, sum_by-le}
@@ -16,9 +16,8 @@ use Rattle.ground_program.specs.Program.{IsNumber}
 use Rattle.ground_program.specs.declared.program.AtomLit.{AtomLit}
 use Rattle.ground_program.specs.declared.program.Weighted.{Weighted}
 use Rattle.normal_program.specs.declared.normal.Part.{Part}
-use Rattle.rule_normaliser.specs.declared.key.KeyPart.{KeyPart}
 use Rattle.normal_program.specs.Body.{rank, is_same, total_weight, IsMerged}
-use Rattle.rule_normaliser.specs.Key.{part_of, KeepsMerged}
+use Rattle.rule_normaliser.specs.Merging.{KeepsMerged}
 use Rattle.normal_program.proofs.RankLemmas.{rank-injective}
 use Rattle.item_list.proofs.ListLemmas.{Any-append_left, All-found}
 
@@ -180,60 +179,35 @@ module _ (body : List Weighted) (item : Weighted)
               (k, d', within, get_or_default (set parts at part) k d' d within, lit_stays k d ∙ e)
 
 -- the last part is of another literal, or there is none
-abbrev pub IsNewLit : List KeyPart → AtomLit → Type 0
-IsNewLit old lit =
-    (d : KeyPart) → 0 < length old → (part_of (get_or old (length old - 1) d)).lit ≢ lit
+abbrev pub IsNewLit : List Part → AtomLit → Type 0
+IsNewLit old lit = (d : Part) → 0 < length old → (get_or old (length old - 1) d).lit ≢ lit
 
 -- a new literal becomes a part of its own
-pub KeepsMerged-push : (old : List KeyPart) (item : Weighted) (new : KeyPart)
-    → (part_of new).lit ≡ item.lit → new.weight ≡ item.weight → IsNewLit old item.lit
-    → KeepsMerged old item (old ++ new ∷ [])
+pub KeepsMerged-push : (old : List Part) (item : Weighted) (new : Part) → new.lit ≡ item.lit
+    → new.weight ≡ item.weight → IsNewLit old item.lit → KeepsMerged old item (old ++ new ∷ [])
 KeepsMerged-push old item new lit weight other body at_most merged =
-    subst (IsMerged (body ++ item ∷ [])) (sym (map_push part_of old new))
-    (IsMerged-push body item at_most (map part_of old) merged (part_of new) lit weight below)
+    IsMerged-push body item at_most old merged new lit weight below
   where
-    below : All (λ part. rank part.lit < rank item.lit) (map part_of old)
+    below : All (λ part. rank part.lit < rank item.lit) old
     below k d h =
-        let len : length (map part_of old) ≡ length old = length-map old part_of in
-        let key : KeyPart =
-        record { atom = d.lit.atom; negated = d.lit.negated; weight = d.weight } in
         let end : length old - 1 < length old = omega arith in
-        let last : get_or (map part_of old) (length old - 1) d
-        ≡ part_of (get_or old (length old - 1) key) =
-        get_or-map part_of old (length old - 1) key d end in
-        let low : rank (get_or (map part_of old) (length old - 1) d).lit ≤ rank item.lit =
-        parts_at_most body item at_most (map part_of old) merged (length old - 1) d
-        (omega arith) in
-        let differ : rank (get_or (map part_of old) (length old - 1) d).lit ≢ rank item.lit =
-        λ e. other key (omega arith)
-        (sym (ap (λ (one : Part). one.lit) last) ∙ rank-injective _ _ e) in
+        let low : rank (get_or old (length old - 1) d).lit ≤ rank item.lit =
+        parts_at_most body item at_most old merged (length old - 1) d end in
+        let differ : rank (get_or old (length old - 1) d).lit ≢ rank item.lit =
+        λ e. other d (omega arith) (rank-injective _ _ e) in
         ⊎_elim
-        (λ e. subst (λ j. rank (get_or (map part_of old) j d).lit < rank item.lit) (sym e)
-        (omega arith))
-        (λ ne. let less : rank (get_or (map part_of old) k d).lit
-        < rank (get_or (map part_of old) (length old - 1) d).lit =
-        merged.order k (length old - 1) d (omega arith) (omega arith) in omega arith)
+        (λ e. subst (λ j. rank (get_or old j d).lit < rank item.lit) (sym e) (omega arith))
+        (λ ne. let less : rank (get_or old k d).lit < rank (get_or old (length old - 1) d).lit =
+        merged.order k (length old - 1) d (omega arith) end in omega arith)
         (cases_eq k (length old - 1))
 
 -- the last literal again adds its weight to the last part
-pub KeepsMerged-add : (old : List KeyPart) (item : Weighted) (at : ℕ) (new : KeyPart)
-    → at + 1 ≡ length old → ((d : KeyPart) → (part_of (get_or old at d)).lit ≡ item.lit)
-    → (part_of new).lit ≡ item.lit
-    → ((d : KeyPart) → new.weight ≡ (get_or old at d).weight + item.weight)
+pub KeepsMerged-add : (old : List Part) (item : Weighted) (at : ℕ) (new : Part)
+    → at + 1 ≡ length old → ((d : Part) → (get_or old at d).lit ≡ item.lit)
+    → new.lit ≡ item.lit → ((d : Part) → new.weight ≡ (get_or old at d).weight + item.weight)
     → KeepsMerged old item (set old at new)
 KeepsMerged-add old item at new last here lit weight body at_most merged =
-    subst (IsMerged (body ++ item ∷ [])) (sym (map-set part_of old at new))
-    (IsMerged-add body item at_most (map part_of old) merged (part_of new) lit at
-    (last ∙ sym (length-map old part_of))
-    (λ d. ap (λ (one : Part). one.lit) (seen d) ∙ here (key_of d))
-    (λ d. weight (key_of d) ∙ ap (λ n. n + item.weight)
-    (sym (ap (λ (one : Part). one.weight) (seen d)))))
-  where
-    key_of : Part → KeyPart
-    key_of d = record { atom = d.lit.atom; negated = d.lit.negated; weight = d.weight }
-
-    seen : (d : Part) → get_or (map part_of old) at d ≡ part_of (get_or old at (key_of d))
-    seen d = get_or-map part_of old at (key_of d) d (omega arith)
+    IsMerged-add body item at_most old merged new lit at last here weight
 
 -- merged weights are small where the weights of the body are numbers of the format
 pub merged_weights_small : (body : List Weighted) (parts : List Part) → IsMerged body parts

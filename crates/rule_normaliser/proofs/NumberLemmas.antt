@@ -1,41 +1,27 @@
--- Keys get the numbers of their bodies, and rules whose bodies have numbers stay so when one more
--- follows.
+-- Bodies get numbers, and rules whose bodies have numbers stay so when one more follows.
 use mathlib.Core.Bool.{beq}
 use Rattle.std.proofs.Common.{eqb, ◌&&◌, ◌≡◌, ◌≢◌, ◌≤◌, ◌<◌, ◌+◌, ◌⊎◌, ℕ, Bool, true, false, List}
-use Rattle.std.proofs.Common.{[], ◌∷◌, ◌++◌, Some, length, get_or, map, AllPairs, refl, sym, ap}
+use Rattle.std.proofs.Common.{[], ◌∷◌, ◌++◌, Some, length, get_or, AllPairs, refl, sym, ap}
 use Rattle.std.proofs.Common.{subst, ◌∙◌, arith, if◌then◌else◌, inl, inr, ⊎_elim, slice_get}
 use Rattle.std.specs.Bool.{Decides}
 use Rattle.std.specs.List.{list_any}
-use Rattle.std.specs.Option.{option_map}
 use Rattle.std.proofs.lemmas.Bool.{cases_lt, both_ways}
 use Rattle.std.proofs.lemmas.Bool.Decides.{Decides-and, Decides-eqb, Decides-like}
-use Rattle.std.proofs.lemmas.List.{map_push, length-map, length_push, get_or_push}
+use Rattle.std.proofs.lemmas.List.{length_push, get_or_push}
 use Rattle.std.proofs.lemmas.List.{get_or_append_left, take-append-le, take_at}
-use Rattle.std.proofs.lemmas.List.Elements.{All-map}
 use Rattle.std.proofs.lemmas.List.Folds.{list_any_at}
 use Rattle.std.proofs.lemmas.List.Quantifiers.{all_pairs_push, Any-push}
-use Rattle.std.proofs.lemmas.Option.{slice_get-map, slice_get_within, slice_get_read}
+use Rattle.std.proofs.lemmas.Option.{slice_get_within, slice_get_read}
 use Rattle.std.proofs.lemmas.Option.{get_or_from_slice_get}
 use Rattle.ground_program.specs.declared.program.Rule.{Rule}
+use Rattle.ground_program.specs.declared.program.AtomLit.{AtomLit}
+use Rattle.normal_program.specs.declared.normal.Part.{Part}
 use Rattle.normal_program.specs.declared.normal.BodyOf.{BodyOf}
 use Rattle.normal_program.specs.declared.normal.NormalRule.{NormalRule}
 use Rattle.normal_program.specs.Normal.{IsBodyOf, StandsFor, HasNumber, AreInOrder, AreNumbered}
 use Rattle.item_list.proofs.ListLemmas.{Any-append_left, slice_get_append, IsSomeAnd-kept}
 use Rattle.item_list.proofs.ListLemmas.{AllZip-add, AllZip-weaker}
-use Rattle.rule_normaliser.specs.declared.key.KeyPart.{KeyPart}
-use Rattle.rule_normaliser.specs.declared.key.BodyKey.{BodyKey}
-use Rattle.rule_normaliser.specs.Key.{part_of, body_of, Numbers}
-
--- a key part is its part
-pub part_of-injective : (one two : KeyPart) → part_of one ≡ part_of two → one ≡ two
-part_of-injective one two same =
-    λ i.
-    record {
-      atom = (same i).lit.atom;
-      negated = (same i).lit.negated;
-      weight =
-          (same i).weight;
-    }
+use Rattle.rule_normaliser.specs.Numbering.{Numbers}
 
 -- the test of two truth values
 beq-Decides : (one two : Bool) → Decides (beq one two) (one ≡ two)
@@ -44,93 +30,78 @@ beq-Decides true false = (λ e. cc, λ e. cc)
 beq-Decides false true = (λ e. cc, λ e. cc)
 beq-Decides false false = (λ e. refl, λ e. refl)
 
--- key parts are compared field by field
-pub KeyPart-Decides : (one two : KeyPart)
-    → Decides (eqb one.atom two.atom && (beq one.negated two.negated && eqb one.weight two.weight))
-    (one ≡ two)
-KeyPart-Decides one two =
+-- the test of two literals
+AtomLit-Decides : (one two : AtomLit)
+    → Decides (eqb one.atom two.atom && beq one.negated two.negated) (one ≡ two)
+AtomLit-Decides one two =
     Decides-like _
-    (λ same. λ i. record { atom = same.0 i; negated = same.1.0 i; weight = same.1.1 i })
-    (λ same. (
-      ap (λ (key : KeyPart). key.atom) same,
-      (ap (λ (key : KeyPart). key.negated) same, ap (λ (key : KeyPart). key.weight) same),
-    ))
-    (Decides-and _ _ (Decides-eqb one.atom two.atom)
-    (Decides-and _ _ (beq-Decides one.negated two.negated) (Decides-eqb one.weight two.weight)))
+    (λ same. λ i. record { atom = same.0 i; negated = same.1 i })
+    (λ same. (ap (λ (lit : AtomLit). lit.atom) same, ap (λ (lit : AtomLit). lit.negated) same))
+    (Decides-and _ _ (Decides-eqb one.atom two.atom) (beq-Decides one.negated two.negated))
 
--- lists of key parts with the same parts are the same
-pub map-part_of-injective : (xs ys : List KeyPart) → map part_of xs ≡ map part_of ys → xs ≡ ys
-map-part_of-injective [] [] same = refl
-map-part_of-injective [] (y ∷ ys) same = cc
-map-part_of-injective (x ∷ xs) [] same = cc
-map-part_of-injective (x ∷ xs) (y ∷ ys) same =
-    let first : part_of x ≡ part_of y = cc in
-    let rest : map part_of xs ≡ map part_of ys = cc in
-    λ i. part_of-injective x y first i ∷ map-part_of-injective xs ys rest i
-
--- keys are compared by their bodies
-pub BodyKey-Decides : (one two : BodyKey) (parts : Bool)
-    → Decides parts (one.parts.items ≡ two.parts.items)
-    → Decides (eqb one.bound two.bound && parts) (body_of one ≡ body_of two)
-BodyKey-Decides one two parts decides =
+-- the test of two parts
+pub Part-Decides : (one two : Part)
+    → Decides ((eqb one.lit.atom two.lit.atom && beq one.lit.negated two.lit.negated)
+    && eqb one.weight two.weight) (one ≡ two)
+Part-Decides one two =
     Decides-like _
-    (λ same. λ i. record { bound = same.0 i; parts = map part_of (same.1 i) })
-    (λ same. (
-      ap (λ (body : BodyOf). body.bound) same,
-      map-part_of-injective one.parts.items two.parts.items
-          (ap (λ (body : BodyOf). body.parts) same),
-    ))
+    (λ same. λ i. record { lit = same.0 i; weight = same.1 i })
+    (λ same. (ap (λ (part : Part). part.lit) same, ap (λ (part : Part). part.weight) same))
+    (Decides-and _ _ (AtomLit-Decides one.lit two.lit) (Decides-eqb one.weight two.weight))
+
+-- the test of two bodies
+pub BodyOf-Decides : (one two : BodyOf) (parts : Bool) → Decides parts (one.parts ≡ two.parts)
+    → Decides (eqb one.bound two.bound && parts) (one ≡ two)
+BodyOf-Decides one two parts decides =
+    Decides-like _
+    (λ same. λ i. record { bound = same.0 i; parts = same.1 i })
+    (λ same. (ap (λ (body : BodyOf). body.bound) same, ap (λ (body : BodyOf). body.parts) same))
     (Decides-and _ _ (Decides-eqb one.bound two.bound) decides)
 
-module _ (equal : BodyKey → BodyKey → Bool)
-    (decides : (one two : BodyKey) → Decides (equal one two) (body_of one ≡ body_of two)) where
-  -- a key that is put among others gives its body a number
-  pub Numbers-insert : (keys new : List BodyKey) (key : BodyKey) (number : ℕ)
-      → new ≡ (if list_any (equal key) keys then keys else keys ++ key ∷ [])
-      → (found : BodyKey) × (slice_get new number ≡ Some found) × (equal key found ≡ true)
-      → Numbers (map body_of keys) (body_of key) (map body_of new) number
-  Numbers-insert keys new key number inserted stored = by (list_any (equal key) keys) refl
+module _ (equal : BodyOf → BodyOf → Bool)
+    (decides : (one two : BodyOf) → Decides (equal one two) (one ≡ two)) where
+  -- a body that is put among others gets a number
+  pub Numbers-insert : (old new : List BodyOf) (body : BodyOf) (number : ℕ)
+      → new ≡ (if list_any (equal body) old then old else old ++ body ∷ [])
+      → (found : BodyOf) × (slice_get new number ≡ Some found) × (equal body found ≡ true)
+      → Numbers old body new number
+  Numbers-insert old new body number inserted stored = by (list_any (equal body) old) refl
     where
-      same : body_of key ≡ body_of stored.0
-      same = (decides key stored.0).0 stored.2
+      same : body ≡ stored.0
+      same = (decides body stored.0).0 stored.2
 
-      by : (b : Bool) → list_any (equal key) keys ≡ b
-          → Numbers (map body_of keys) (body_of key) (map body_of new) number
+      by : (b : Bool) → list_any (equal body) old ≡ b → Numbers old body new number
       by true e =
-          let kept : new ≡ keys = inserted ∙ ap (λ b. if b then keys else keys ++ key ∷ []) e in
+          let kept : new ≡ old = inserted ∙ ap (λ b. if b then old else old ++ body ∷ []) e in
           inl (
-            ap (map body_of) kept,
-            slice_get-map body_of keys number
-                ∙ ap (option_map body_of) (ap (λ ks. slice_get ks number) (sym kept) ∙ stored.1)
-                ∙ ap Some (sym same),
+            kept,
+            ap (λ all. slice_get all number) (sym kept) ∙ stored.1 ∙ ap Some (sym same),
           )
       by false e =
-          let more : new ≡ keys ++ key ∷ [] =
-          inserted ∙ ap (λ b. if b then keys else keys ++ key ∷ []) e in
-          let here : slice_get (keys ++ key ∷ []) number ≡ Some stored.0 =
-          ap (λ ks. slice_get ks number) (sym more) ∙ stored.1 in
-          let within : number < length keys + 1 =
+          let more : new ≡ old ++ body ∷ [] =
+          inserted ∙ ap (λ b. if b then old else old ++ body ∷ []) e in
+          let here : slice_get (old ++ body ∷ []) number ≡ Some stored.0 =
+          ap (λ all. slice_get all number) (sym more) ∙ stored.1 in
+          let within : number < length old + 1 =
           omega (
             arith,
-            slice_get_within (keys ++ key ∷ []) number stored.0 here,
-            length_push keys key,
+            slice_get_within (old ++ body ∷ []) number stored.0 here,
+            length_push old body,
           ) in
           inr (
-            All-map (λ other. other ≢ body_of key) body_of keys
-                (λ k d h other. both_ways (list_any (equal key) keys) e
-                (list_any_at (equal key) keys k d h
-                ((decides key (get_or keys k d)).1 (sym other)))),
-            ap (map body_of) more ∙ map_push body_of keys key,
-            ⊎_elim (λ low. absurd (both_ways (list_any (equal key) keys) e
-                (list_any_at (equal key) keys number stored.0 low
-                (subst (λ k. equal key k ≡ true)
+            (λ k d h other. both_ways (list_any (equal body) old) e
+                (list_any_at (equal body) old k d h
+                ((decides body (get_or old k d)).1 (sym other)))),
+            more,
+            ⊎_elim (λ low. absurd (both_ways (list_any (equal body) old) e
+                (list_any_at (equal body) old number stored.0 low
+                (subst (λ k. equal body k ≡ true)
                 (sym
-                (sym (get_or_append_left keys (key ∷ []) stored.0 number low)
-                ∙ get_or_from_slice_get (keys ++ key ∷ []) number stored.0 stored.0
+                (sym (get_or_append_left old (body ∷ []) stored.0 number low)
+                ∙ get_or_from_slice_get (old ++ body ∷ []) number stored.0 stored.0
                 here)) stored.2))))
-                (λ high. let end : number ≡ length keys = omega arith in
-                end ∙ sym (length-map keys body_of))
-                (cases_lt number (length keys)),
+                (λ high. omega arith)
+                (cases_lt number (length old)),
           )
 
 module _ (old : List BodyOf) (body : BodyOf) (new : List BodyOf) (number : ℕ)

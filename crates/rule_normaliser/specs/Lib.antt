@@ -1,2 +1,3 @@
-pub mod Key
+pub mod Merging
+pub mod Numbering
 pub mod Cause

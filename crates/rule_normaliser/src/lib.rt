@@ -2,7 +2,6 @@
 #![tactic(auto)]
 
 mod error;
-mod key;
 mod merging;
 mod normalising;
 mod numbering;

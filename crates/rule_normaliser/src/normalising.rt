@@ -1,12 +1,11 @@
 // The normal form of a program, unless it has too many variables.
-ghost use Rattle.std.specs.Prelude.{◌≡◌, ◌≤◌, ◌<◌, ◌+◌, ◌^◌, length, map, IfOk, IfErr};
+ghost use Rattle.std.specs.Prelude.{◌≡◌, ◌≤◌, ◌<◌, ◌+◌, ◌^◌, length, IfOk, IfErr};
 ghost use Rattle.ground_program.specs.Program.{IsProgram};
-ghost use Rattle.rule_normaliser.specs.Key.{body_of};
 ghost use Rattle.normal_program.specs.Normal.{IsNormalFormOf, AreNumbered, variables, SameBodies};
 ghost use Rattle.normal_program.specs.Normal.{SameAnswerSets};
 ghost use Rattle.rule_normaliser.specs.Cause.{IsCauseOf};
 
-use crate::numbering::{Numbered, bodies_of, number_rules};
+use crate::numbering::{Numbered, listed, number_rules};
 use crate::{MOST_VARIABLES, Normal, NormalError};
 use ground_program::Program;
 use item_list::NoMemory;
@@ -26,7 +25,7 @@ pub fn normalise(alloc: Global, program: &Program) -> Result<Normal, NormalError
     ensures refused { IfErr result (IsCauseOf program.now) }
 {
     let numbered = number_rules(alloc, program.rules.as_slice())?;
-    let count = variable_count(program, numbered.keys.len());
+    let count = variable_count(program, numbered.bodies.len());
     if count > MOST_VARIABLES {
         return Err(NormalError::TooManyVariables(count));
     }
@@ -45,12 +44,12 @@ fn variable_count(program: &Program, bodies: usize) -> u64
 
 // The numbered rules, with the rest of the program.
 fn assemble(alloc: Global, program: &Program, numbered: Numbered) -> Result<Normal, NoMemory>
-    requires { AreNumbered (map body_of numbered.keys.keys) numbered.rules program.now.rules }
+    requires { AreNumbered numbered.bodies.keys numbered.rules program.now.rules }
     ensures form { IfOk result (λ normal. IsNormalFormOf normal program.now) }
-    ensures bodies { IfOk result (λ normal. normal.bodies ≡ map body_of numbered.keys.keys) }
+    ensures bodies { IfOk result (λ normal. normal.bodies ≡ numbered.bodies.keys) }
 {
-    let Numbered { keys, rules } = numbered;
-    let bodies = bodies_of(alloc, keys)?;
+    let Numbered { bodies, rules } = numbered;
+    let bodies = listed(alloc, bodies)?;
     let names = program.names.copy(alloc)?;
     let must = program.must.copy(alloc)?;
     let must_not = program.must_not.copy(alloc)?;

@@ -1,8 +1,8 @@
-use Rattle.std.proofs.Common.{◌<◌, ◌-◌, ◌≡◌, length, subst, sym, ap, ◌∙◌, arith, get_or}
+use Rattle.std.proofs.Common.{◌-◌, ◌≡◌, length, subst, sym, ap, ◌∙◌, arith, get_or, refl}
 use Rattle.std.proofs.lemmas.Bool.{iff_false}
-use Rattle.std.proofs.lemmas.List.{get_or_default}
-use Rattle.rule_normaliser.specs.declared.key.KeyPart.{KeyPart}
-use Rattle.rule_normaliser.specs.Key.{part_of, KeepsMerged}
+use Rattle.std.proofs.lemmas.Option.{get_or_from_slice_get}
+use Rattle.normal_program.specs.declared.normal.Part.{Part}
+use Rattle.rule_normaliser.specs.Merging.{KeepsMerged}
 use Rattle.rule_normaliser.proofs.MergeLemmas.{KeepsMerged-push, KeepsMerged-add, IsNewLit}
 use Rattle.rule_normaliser.proofs.merging.add_item.Goals as goal
 use Rattle.rule_normaliser.proofs.merging.add_item.Goals.{else-count-gt0-via-then-count-gt0+else-is_of}
@@ -10,39 +10,33 @@ use Rattle.rule_normaliser.proofs.merging.add_item.Goals.{else-count-gt0-via-els
 
 pub returns-then-is_of : goal.returns-then-is_of
 returns-then-is_of c =
-    let items = c.args.parts.now.items in
+    let parts = c.args.parts.now in
     let at = c.len-count.result - 1 in
-    let within : at < length items = omega arith in
-    let seen : (d : KeyPart) → get_or items at d ≡ c.index.result.now =
-    λ d. get_or_default items at d c.index.result.now within ∙ sym c.index.ensures in
-    let same : (part_of c.index.result.now).lit ≡ c.args.item.now.lit =
-    c.is_of.ensures.0 c.if-is_of.true in
-    let written : c.index_mut.result.now ≡ c.index.result.now =
-    c.index_mut.ensures.value ∙ seen _ in
-    KeepsMerged-add items c.args.item.now at _ (omega arith)
-    (λ d. ap (λ (key : KeyPart). (part_of key).lit) (seen d) ∙ same)
-    (ap (λ (key : KeyPart). (part_of key).lit) written ∙ same)
+    let seen : (d : Part) → get_or parts at d ≡ c.get.result.now =
+    λ d. get_or_from_slice_get parts at c.get.result.now d c.get.ensures in
+    let last : (d : Part) → get_or parts at d ≡ c.get-last.result.now =
+    λ d. get_or_from_slice_get parts at c.get-last.result.now d c.get-last.ensures in
+    let same : c.get.result.now.lit ≡ c.args.item.now.lit = c.is_of.ensures.0 c.if-is_of.true in
+    subst (KeepsMerged parts c.args.item.now) (sym c.set.ensures)
+    (KeepsMerged-add parts c.args.item.now at _ (omega arith)
+    (λ d. ap (λ (part : Part). part.lit) (seen d) ∙ same) refl
     (λ d.
-    let old : c.index_mut.result.now.weight ≡ (get_or items at d).weight =
-    ap (λ (key : KeyPart). key.weight) (written ∙ sym (seen d)) in
-    omega (arith, old, c.from.ensures))
+    omega (arith, ap (λ (part : Part). part.weight) (last d), c.from.ensures)))
 
 pub returns : goal.returns
 returns c =
-    let items = c.args.parts.now.items in
-    let new : IsNewLit items c.args.item.now.lit =
+    let parts = c.args.parts.now in
+    let new : IsNewLit parts c.args.item.now.lit =
     elim c.else-count-gt0.branch [
       | else-count-gt0-via-then-count-gt0+else-is_of w ↦ λ d some same.
-          let at : length items - 1 < length items = omega arith in
-          let count : c.len-count.result ≡ length items = omega arith in
-          let seen : get_or items (c.len-count.result - 1) w.index.result.now
-          ≡ get_or items (length items - 1) d =
-          ap (λ n. get_or items (n - 1) w.index.result.now) count
-          ∙ get_or_default items (length items - 1) w.index.result.now d at in
+          let count : c.len-count.result ≡ length parts = omega arith in
+          let seen : get_or parts (length parts - 1) d ≡ w.get.result.now =
+          ap (λ n. get_or parts (n - 1) d) (sym count)
+          ∙ get_or_from_slice_get parts (c.len-count.result - 1) w.get.result.now d w.get.ensures in
           iff_false w.is_of.ensures w.if-is_of.false
-          (ap (λ (key : KeyPart). (part_of key).lit) (w.index.ensures ∙ seen) ∙ same)
+          (ap (λ (part : Part). part.lit) (sym seen) ∙ same)
       | else-count-gt0-via-else-count-gt0 w ↦ λ d some same. omega arith
     ] in
-    let pushed = (c.in_ok-push.ensures).items in
-    subst (KeepsMerged items c.args.item.now) (sym pushed)
-    (KeepsMerged-push items c.args.item.now c.new.result c.new.ensures.lit c.new.ensures.weight new)
+    subst (KeepsMerged parts c.args.item.now) (sym (c.in_ok-push.ensures).ok)
+    (KeepsMerged-push parts c.args.item.now c.part_of.result c.part_of.ensures.lit
+    c.part_of.ensures.weight new)

@@ -1,11 +1,10 @@
-use Rattle.std.proofs.Common.{◌<◌, List, All, map, subst, sym, length, arith}
+use Rattle.std.proofs.Common.{◌<◌, List, All, subst, sym, length, arith}
 use Rattle.std.specs.List.Sorted.{IsNonDecreasingBy}
 use Rattle.std.proofs.lemmas.List.Sorted.{All-permutation, length_permutation}
 use Rattle.std.proofs.lemmas.Result.{IfOk-weaker}
 use Rattle.ground_program.specs.declared.program.Weighted.{Weighted}
 use Rattle.ground_program.specs.Program.{IsNumber}
 use Rattle.normal_program.specs.Body.{rank, IsMerged}
-use Rattle.rule_normaliser.specs.Key.{part_of}
 use Rattle.rule_normaliser.proofs.MergeLemmas.{IsMerged-permutation}
 use Rattle.rule_normaliser.proofs.merging.merged.Goals as goal
 
@@ -28,9 +27,8 @@ joined-requires-clause-weights c =
 
 pub returns : goal.returns
 returns c =
-    IfOk-weaker c.joined.result (λ parts. IsMerged c.deref.result.now (map part_of parts.items))
-    (λ parts. IsMerged c.args.body.now (map part_of parts.items))
+    IfOk-weaker c.joined.result (IsMerged c.deref.result.now) (IsMerged c.args.body.now)
     (λ parts merged.
     IsMerged-permutation _ _ _ c.in_ok-items.ensures.same
-    (subst (λ items. IsMerged items (map part_of parts.items)) c.deref.ensures.value merged))
+    (subst (λ items. IsMerged items parts) c.deref.ensures.value merged))
     c.joined.ensures

@@ -1,7 +1,5 @@
-use Rattle.std.proofs.Common.{◌≡◌, map, subst, refl, arith}
-use Rattle.std.proofs.lemmas.List.{length-map}
+use Rattle.std.proofs.Common.{◌≡◌, subst, refl, arith}
 use Rattle.normal_program.specs.declared.normal.Normal.{Normal}
-use Rattle.rule_normaliser.specs.Key.{body_of}
 use Rattle.normal_program.specs.Normal.{AreNumbered, variables, IsNormalFormOf}
 use Rattle.normal_program.proofs.NormalLemmas.{SameBodies-normal_form, SameAnswerSets-normal_form}
 use Rattle.rule_normaliser.proofs.normalising.normalise.Goals as goal
@@ -14,7 +12,7 @@ returns-then-count-gt-MOST_VARIABLES-clause-refused c =
     let normal : Normal =
     record {
       atoms = program.atoms;
-      bodies = map body_of numbered.keys.keys;
+      bodies = numbered.bodies.keys;
       rules = numbered.rules;
       names = program.names;
       must = program.must;
@@ -34,7 +32,6 @@ returns-then-count-gt-MOST_VARIABLES-clause-refused c =
     omega (
       arith,
       c.variable_count-count.ensures,
-      length-map numbered.keys.keys body_of,
       c.len.ensures.len,
     ) in
     ((normal, form, count), c.if-count-gt-MOST_VARIABLES.true)
