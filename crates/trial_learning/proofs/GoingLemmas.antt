@@ -2,7 +2,7 @@
 use Rattle.std.proofs.Common.{◌≡◌, ◌⊎◌, ℕ, zero, suc, ◌<◌, ◌≤◌, ◌+◌, List, [], ◌∷◌, ◌++◌, length}
 use Rattle.std.proofs.Common.{take, Some, None, sym, ap, ◌∙◌, subst, inl, inr, arith, append_assoc}
 use Rattle.std.proofs.Common.{length-append}
-use Rattle.std.specs.Prelude.{All, Contains, slice_get, IsSome, Result, Ok, Err, OnOk, IfOk}
+use Rattle.std.specs.Prelude.{All, Contains, slice_get, IsSome, Result, Ok, Err, OnOk}
 use Rattle.std.proofs.lemmas.Bool.{cases_lt, false≢true}
 use Rattle.std.proofs.lemmas.List.{take-append-le, append-nil, get_or_append_left}
 use Rattle.std.proofs.Math.Seq.{take-append_seam}
@@ -10,7 +10,7 @@ use Rattle.std.proofs.lemmas.List.Elements.{All-head, All-tail, All-push}
 use Rattle.std.proofs.lemmas.Option.{same_Some, slice_get_within}
 use Rattle.clause_store.specs.declared.literal.Lit.{Lit}
 use Rattle.clause_store.specs.declared.step.Step.{Step}
-use Rattle.clause_store.specs.Clause.{AreOver, HoldsIn, IsOver, Meets}
+use Rattle.clause_store.specs.Clause.{HoldsIn, Meets}
 use Rattle.clause_store.specs.Entailment.{AreUnits, Follows}
 use Rattle.clause_store.specs.Trail.{Assigned, IsTrail, RisesFrom, up_to, next_level, present_level}
 use Rattle.clause_store.proofs.BackLemmas.{front_after_back}
@@ -142,6 +142,13 @@ goes_on assumed first second third one two three early late =
       settled = λ is. late.settled (early.settled is);
     }
 
+-- the clauses stayed
+pub goes_on_in_same : (assumed : List Lit) (clauses more : List (List Lit)) (old new : Assigned)
+    → more ≡ clauses → GoesOn assumed clauses clauses old new
+    → GoesOn assumed clauses more old new
+goes_on_in_same assumed clauses more old new same on =
+    subst (λ all. GoesOn assumed clauses all old new) (sym same) on
+
 pub goes_on_extended : (assumed : List Lit) (clauses : List (List Lit)) (old new : Assigned)
     → Extends old new → GoesOn assumed clauses clauses old new
 goes_on_extended assumed clauses old new is =
@@ -230,26 +237,9 @@ goes_on_learned assumed old new trail there clause lit back is follows settled i
           λ was. settled_learned old new trail there clause lit back is was fewer present added;
     }
 
--- the clauses stay over the variables
-pub over_learned : (vars : ℕ) (old new : List (List Lit)) (clause : List Lit) → AreOver vars old
-    → All (IsOver vars) clause → new ≡ old ++ clause ∷ [] → AreOver vars new
-over_learned vars old new clause over clause_over is =
-    subst (AreOver vars) (sym is) (All-push (All (IsOver vars)) old clause over clause_over)
-
--- so does a clause that was handed on
-pub over_moved : (vars same : ℕ) (clause moved : List Lit) → moved ≡ clause → same ≡ vars
-    → All (IsOver vars) clause → All (IsOver same) moved
-over_moved vars same clause moved is vars_are over =
-    subst (λ n. All (IsOver n) moved) (sym vars_are) (subst (All (IsOver vars)) (sym is) over)
-
 -- ---- answers of calls
 
 pub on_ok_then : {X E : Type 0} {P Q : Type 0} (result : Result X E) → OnOk result P → (P → Q)
     → OnOk result Q
 on_ok_then (Ok x) is then = then is
 on_ok_then (Err e) is then = is
-
-pub if_ok_on : {X E : Type 0} {P Q : Type 0} (result : Result X E) → IfOk result (λ _. P) → (P → Q)
-    → OnOk result Q
-if_ok_on (Ok x) is then = then is
-if_ok_on (Err e) is then = is

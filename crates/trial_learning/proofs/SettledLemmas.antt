@@ -21,7 +21,7 @@ use Rattle.propagator.specs.Fixpoint.{Extends, IsFixpoint, IsQuietOn}
 use Rattle.propagator.proofs.ExtendLemmas.{same_level}
 use Rattle.propagator.proofs.ClosureLemmas.{fixpoint_absorbs_no_unit}
 use Rattle.conflict_learning.specs.Analysis.{IsAsserting, level_at, greatest_level}
-use Rattle.conflict_learning.proofs.UnitLemmas.{learned_is_a_unit}
+use Rattle.conflict_learning.proofs.UnitLemmas.{back_is_lower, learned_is_a_unit}
 use Rattle.trial_learning.specs.Search.{AreSettledBelow}
 use Rattle.trial_learning.proofs.ConflictLemmas.{IsOfGreatest, greatest_there}
 
@@ -95,6 +95,25 @@ pub record IsLearnedOn (trail : Assigned) (clause : List Lit) (lit : Lit) (back 
   pub asserting : IsAsserting trail.steps clause lit
   pub level : back ≡ greatest_level trail.steps (others clause lit)
   pub below : back < present_level trail.steps
+
+-- what analysis promises of the trail that it read
+pub learned_on : (trail read : Assigned) (clause : List Lit) (lit : Lit) (back : ℕ) → read ≡ trail
+    → IsTrail trail → 0 < present_level trail.steps → All (IsFalse read.steps) clause
+    → HasNoVariableTwice clause → IsAsserting read.steps clause lit
+    → back ≡ greatest_level read.steps (others clause lit) → IsLearnedOn trail clause lit back
+learned_on trail read clause lit back same is above wrong once asserting level =
+    subst (λ t. IsLearnedOn t clause lit back) same
+    (record {
+      is_trail = subst IsTrail (sym same) is;
+      is_false = wrong;
+      once = once;
+      asserting = asserting;
+      level = level;
+      below =
+          let high : 0 < present_level read.steps =
+          subst (λ t. 0 < present_level t.steps) (sym same) above in
+          omega (arith, level, back_is_lower read.steps clause lit high asserting);
+    })
 
 -- at that level and below its asserting literal is unset
 asserting_unset : (trail : Assigned) (clause : List Lit) (lit : Lit) (back level : ℕ)

@@ -1,6 +1,6 @@
 -- What a search keeps on its way, and what it answers.
-use Rattle.std.specs.Prelude.{◌≡◌, ◌≢◌, ◌<◌, ◌+◌, ◌⊎◌, ◌↔◌, ◌++◌, ℕ, Bool, List, length, take}
-use Rattle.std.specs.Prelude.{slice_get, All, Contains, None, Some}
+use Rattle.std.specs.Prelude.{◌≡◌, ◌≢◌, ◌<◌, ◌+◌, ◌⊎◌, ◌↔◌, ◌++◌, ℕ, Bool, false, List, length}
+use Rattle.std.specs.Prelude.{slice_get, take, All, Contains, None, Some}
 use Rattle.clause_store.specs.declared.literal.Lit.{Lit}
 use Rattle.clause_store.specs.declared.literal.Value.TheVariants.{Yes}
 use Rattle.clause_store.specs.declared.step.Step.{Step}
@@ -9,7 +9,6 @@ use Rattle.clause_store.specs.Entailment.{AreUnits}
 use Rattle.clause_store.specs.Trail.{Assigned, present_level, up_to, value_of, values_of}
 use Rattle.conflict_learning.specs.AssumptionCore.{CannotMeet}
 use Rattle.propagator.specs.Fixpoint.{IsFixpoint}
-use Rattle.propagator.specs.Watched.{IsReady}
 use Rattle.trial_learning.specs.declared.search.Search.{Search}
 use Rattle.trial_learning.specs.declared.search.Answer.{Answer}
 use Rattle.trial_learning.specs.declared.search.Answer.TheVariants.{Model, Core}
@@ -87,7 +86,7 @@ pub record IsClauseOver (vars : ℕ) (clause : List Lit) : Type 0 where
   pub allowed : IsClause clause
   pub over : All (IsOver vars) clause
 
--- a search over the variables 1 to `vars` is ready for propagation
-pub record IsReadyOver (vars : ℕ) (search : Search) : Type 0 where
-  pub ready : IsReady search.store search.trail search.watches
-  pub same_vars : search.trail.vars ≡ vars
+-- a search over the variables 1 to `vars` may go on
+pub record IsAliveOver (vars : ℕ) (search : Search) : Type 0 where
+  pub alive : search.state.dead ≡ false
+  pub same_vars : search.state.trail.vars ≡ vars

@@ -9,10 +9,10 @@ const PATTERNS: u32 = 512;
 /// Whether an answer is right about the first `count` clauses of a search.
 pub fn is_right(search: &Search, count: usize, assumed: &[Lit], answer: &Answer) -> bool {
     match answer {
-        Answer::Model => is_met_on(&search.trail, &search.store, count, assumed),
+        Answer::Model => is_met_on(search.state.trail(), search.state.store(), count, assumed),
         Answer::Core(core) => {
             let lits = core.as_slice();
-            are_among(lits, assumed) && !can_be_met(&search.store, count, lits)
+            are_among(lits, assumed) && !can_be_met(search.state.store(), count, lits)
         }
     }
 }

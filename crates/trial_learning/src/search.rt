@@ -1,20 +1,22 @@
 // The plainest search by conflicts: it propagates, then learns from a clause that is false, or
 // makes the next assumed literal true, or else the next variable false.
 ghost use Rattle.std.specs.Prelude.{◌≡◌, ◌<◌, ◌≤◌, ◌^◌, ◌∷◌, [], ◌++◌, ◌+◌, IfNone, length};
-ghost use Rattle.std.specs.Prelude.{List, All, OnOk, IfOk, IfSome};
-ghost use Rattle.clause_store.specs.Clause.{IsClause, IsOver};
-ghost use Rattle.clause_store.specs.Standing.{IsConflict};
-ghost use Rattle.clause_store.specs.Trail.{IsTrail, present_level, up_to};
-ghost use Rattle.propagator.specs.Watched.{IsReady};
+ghost use Rattle.std.specs.Prelude.{List, All, OnOk, OnErr, IfOk, IfSome, Some, false, true};
+ghost use Rattle.std.specs.Prelude.{slice_get};
+ghost use Rattle.clause_store.specs.Clause.{AreOver, IsClause, IsOver};
+ghost use Rattle.clause_store.specs.Standing.{IsConflict, IsFalse};
+ghost use Rattle.clause_store.specs.Trail.{IsTrail, present_level, up_to, value_of};
+ghost use Rattle.conflict_learning.specs.Analysis.{HasPresent, greatest_level};
+ghost use Rattle.conflict_learning.specs.AssumptionCore.{CannotMeet, IsCore};
 ghost use Rattle.propagator.specs.Fixpoint.{IsFixpoint};
 ghost use Rattle.trial_learning.specs.Search.{AreAssumedFirst, AreSettledBelow, AreTrue};
 ghost use Rattle.trial_learning.specs.Search.{AddsUnits, GoesOn, IsSearchAnswer, IsLaterState};
 ghost use Rattle.trial_learning.specs.Search.{IsNearer, IsNotTrueAt};
 
 use crate::next_decision::{first_not_true, least_unset};
-use clause_store::{Clause, ClauseRef, Lit, NoMemory, Store, Trail, Value};
+use clause_store::{Clause, ClauseRef, Lit, NoMemory, Store, Value};
 use conflict_learning::{Learned, analyse, final_core, greatest_level};
-use propagator::{Watches, propagate};
+use search_state::SearchState;
 use std::alloc::Global;
 
 /// What a search finds.
@@ -26,31 +28,33 @@ pub enum Answer {
     Core(Clause),
 }
 
-/// Clauses, assignments of their variables, and what the last conflict taught.
+/// Clauses with assignments of their variables, and what the last conflict taught.
 #[derive(Debug, Drop)]
 pub struct Search {
-    pub store: Store,
-    pub trail: Trail,
-    watches: Watches,
+    pub state: SearchState,
     pub learned: Learned,
 }
 
 impl Search {
-    /// No clause over the variables 1 to `vars`, with a place for what conflicts teach.
-    pub fn open(alloc: Global, vars: u32, learned: Learned) -> Result<Search, NoMemory>
-        requires { vars < 2 ^ 31 }
-        ensures ready { IfOk result (λ it. IsReady it.store it.trail it.watches) }
-        ensures vars { IfOk result (λ it. it.trail.vars ≡ vars) }
+    /// The clauses of a store, over the variables 1 to `vars`, with a place for what conflicts
+    /// teach.
+    pub fn open(
+        alloc: Global,
+        vars: u32,
+        store: Store,
+        learned: Learned,
+    ) -> Result<Search, NoMemory>
+        requires few { vars < 2 ^ 31 }
+        requires over { AreOver vars store }
+        ensures state { IfOk result (λ it. it.state ≡ record {
+          clauses = store;
+          trail = record { vars = vars; steps = [] };
+          dead = false;
+        }) }
         ensures learned { IfOk result (λ it. it.learned ≡ learned) }
     {
-        let trail = Trail::open(alloc, vars)?;
-        let watches = Watches::open(alloc, vars)?;
-        Ok(Search {
-            store: Store::open(),
-            trail,
-            watches,
-            learned,
-        })
+        let state = SearchState::open(alloc, vars, store)?;
+        Ok(Search { state, learned })
     }
 
     /// The place for what conflicts teach, for another search.
@@ -60,63 +64,66 @@ impl Search {
         self.learned
     }
 
-    /// Adds a clause.
+    /// Adds a clause. After want of memory the state is dead.
     pub fn add(&mut self, alloc: Global, lits: &[Lit]) -> Result<(), NoMemory>
-        requires ready { IsReady self.old.store self.old.trail self.old.watches }
+        requires alive { self.old.state.dead ≡ false }
         requires clause { IsClause lits.now }
-        requires over { All (IsOver self.old.trail.vars) lits.now }
-        ensures ready { OnOk result (IsReady self.new.store self.new.trail self.new.watches) }
-        ensures ok { OnOk result (self.new.store ≡ self.old.store ++ lits.now ∷ []) }
-        ensures trail { self.new.trail ≡ self.old.trail }
+        requires over { All (IsOver self.old.state.trail.vars) lits.now }
+        ensures ok { OnOk result (self.new.state
+            ≡ record self.old.state { clauses = self.old.state.clauses ++ lits.now ∷ [] }) }
+        ensures err { OnErr result (self.new.state.dead ≡ true) }
+        ensures trail { self.new.state.trail ≡ self.old.state.trail }
     {
-        let at = self.store.add(alloc, lits)?;
-        self.watches.attach(alloc, &self.store, &self.trail, at)
+        self.state.add(alloc, lits)?;
+        Ok(())
     }
 
     /// Whether all clauses and assumed literals can be met. None: more clauses were learned than
-    /// `conflicts`. After want of memory the search may not be used any more.
+    /// `conflicts`. After want of memory the state may be dead.
     pub fn solve(
         &mut self,
         alloc: Global,
         assumed: &[Lit],
         conflicts: u32,
     ) -> Result<Option<Answer>, NoMemory>
-        requires ready { IsReady self.old.store self.old.trail self.old.watches }
-        requires over { All (IsOver self.old.trail.vars) assumed.now }
-        ensures ready { OnOk result (IsReady self.new.store self.new.trail self.new.watches) }
-        ensures vars { OnOk result (self.new.trail.vars ≡ self.old.trail.vars) }
-        ensures units { OnOk result (AddsUnits self.old.store self.new.store) }
+        requires alive { self.old.state.dead ≡ false }
+        requires over { All (IsOver self.old.state.trail.vars) assumed.now }
+        ensures alive { OnOk result (self.new.state.dead ≡ false) }
+        ensures vars { OnOk result (self.new.state.trail.vars ≡ self.old.state.trail.vars) }
+        ensures units { OnOk result (AddsUnits self.old.state.clauses self.new.state.clauses) }
         ensures answer { IfOk result (λ it.
-            IfSome it (IsSearchAnswer self.old.store assumed.now self.new.trail)) }
+            IfSome it (IsSearchAnswer self.old.state.clauses assumed.now self.new.state.trail)) }
         ensures none { IfOk result (λ it.
-            IfNone it (length self.old.store + conflicts < length self.new.store)) }
+            IfNone it (length self.old.state.clauses + conflicts < length self.new.state.clauses)) }
     {
         self.go_back(0);
-        let full = self.store.len().saturating_add(conflicts as usize);
-        'turns: while self.store.len() <= full {
+        let full = self.state.store().len().saturating_add(conflicts as usize);
+        'turns: while self.state.store().len() <= full {
             if let Some(answer) = self.turn(alloc, assumed)? {
                 return Ok(Some(answer));
             }
-            self.trail.vouch();
+            self.state.vouch();
         }
         Ok(None)
     }
 
     /// Propagates, and then learns or decides. None: there is more to do.
     fn turn(&mut self, alloc: Global, assumed: &[Lit]) -> Result<Option<Answer>, NoMemory>
-        requires ready { IsReady self.old.store self.old.trail self.old.watches }
-        requires over { All (IsOver self.old.trail.vars) assumed.now }
-        requires first { AreAssumedFirst assumed.now self.old.trail.steps }
-        requires settled { AreSettledBelow self.old.store self.old.trail.steps }
-        ensures ready { OnOk result (IsReady self.new.store self.new.trail self.new.watches) }
+        requires alive { self.old.state.dead ≡ false }
+        requires over { All (IsOver self.old.state.trail.vars) assumed.now }
+        requires first { AreAssumedFirst assumed.now self.old.state.trail.steps }
+        requires settled { AreSettledBelow self.old.state.clauses self.old.state.trail.steps }
+        ensures alive { OnOk result (self.new.state.dead ≡ false) }
         ensures on { OnOk result (
-            GoesOn assumed.now self.old.store self.new.store self.old.trail self.new.trail) }
+            GoesOn assumed.now self.old.state.clauses self.new.state.clauses
+            self.old.state.trail self.new.state.trail) }
         ensures answer { IfOk result (λ it.
-            IfSome it (IsSearchAnswer self.old.store assumed.now self.new.trail)) }
+            IfSome it (IsSearchAnswer self.old.state.clauses assumed.now self.new.state.trail)) }
         ensures nearer { IfOk result (λ it. IfNone it (
-            IsNearer self.old.store self.new.store self.old.trail.steps self.new.trail.steps)) }
+            IsNearer self.old.state.clauses self.new.state.clauses
+            self.old.state.trail.steps self.new.state.trail.steps)) }
     {
-        match propagate(&self.store, &mut self.trail, &mut self.watches) {
+        match self.state.propagate() {
             Some(conflict) => self.learn_from(alloc, conflict),
             None => self.choose(alloc, assumed),
         }
@@ -125,64 +132,102 @@ impl Search {
     /// Learns from a clause that is false. The answer is the empty core where that is so at level
     /// 0, and else there is more to do.
     fn learn_from(&mut self, alloc: Global, conflict: ClauseRef) -> Result<Option<Answer>, NoMemory>
-        requires ready { IsReady self.old.store self.old.trail self.old.watches }
-        requires conflict { IsConflict self.old.store self.old.trail.steps conflict }
-        requires settled { AreSettledBelow self.old.store self.old.trail.steps }
-        ensures ready { OnOk result (IsReady self.new.store self.new.trail self.new.watches) }
+        requires alive { self.old.state.dead ≡ false }
+        requires conflict { IsConflict self.old.state.clauses self.old.state.trail.steps conflict }
+        requires settled { AreSettledBelow self.old.state.clauses self.old.state.trail.steps }
+        ensures alive { OnOk result (self.new.state.dead ≡ false) }
         ensures on { OnOk result ((assumed : List Lit) →
-            GoesOn assumed self.old.store self.new.store self.old.trail self.new.trail) }
+            GoesOn assumed self.old.state.clauses self.new.state.clauses
+            self.old.state.trail self.new.state.trail) }
         ensures answer { IfOk result (λ it. IfSome it (λ answer. (assumed : List Lit) →
-            IsSearchAnswer self.old.store assumed self.new.trail answer)) }
+            IsSearchAnswer self.old.state.clauses assumed self.new.state.trail answer)) }
         ensures nearer { IfOk result (λ it. IfNone it (
-            length self.new.store ≡ length self.old.store + 1)) }
+            length self.new.state.clauses ≡ length self.old.state.clauses + 1)) }
     {
-        self.trail.vouch();
-        let level = greatest_level(&self.trail, self.store.lits(conflict));
+        self.state.vouch();
+        let level = self.greatest_level(conflict);
         if level == 0 {
             return Ok(Some(Answer::Core(Clause::open())));
         }
         self.go_back(level);
-        analyse(alloc, &self.store, &self.trail, conflict, &mut self.learned)?;
-        self.go_back(self.learned.back);
-        let at = self.store.add(alloc, self.learned.clause.as_slice())?;
-        self.watches.attach(alloc, &self.store, &self.trail, at)?;
+        self.learn(alloc, conflict)?;
         Ok(None)
+    }
+
+    /// Adds what a conflict of the present level, which isn't 0, teaches.
+    fn learn(&mut self, alloc: Global, conflict: ClauseRef) -> Result<(), NoMemory>
+        requires alive { self.old.state.dead ≡ false }
+        requires conflict { IsConflict self.old.state.clauses self.old.state.trail.steps conflict }
+        requires present { HasPresent self.old.state.clauses self.old.state.trail.steps conflict }
+        requires above { 0 < present_level self.old.state.trail.steps }
+        requires settled { AreSettledBelow self.old.state.clauses self.old.state.trail.steps }
+        ensures alive { OnOk result (self.new.state.dead ≡ false) }
+        ensures on { OnOk result ((assumed : List Lit) →
+            GoesOn assumed self.old.state.clauses self.new.state.clauses
+            self.old.state.trail self.new.state.trail) }
+        ensures longer { OnOk result (
+            length self.new.state.clauses ≡ length self.old.state.clauses + 1) }
+    {
+        let state = &self.state;
+        analyse(
+            alloc,
+            state.store(),
+            state.trail(),
+            conflict,
+            &mut self.learned,
+        )?;
+        self.go_back(self.learned.back);
+        self.state.add(alloc, self.learned.clause.as_slice())?;
+        Ok(())
+    }
+
+    /// The greatest level of the literals of a clause.
+    fn greatest_level(&self, at: ClauseRef) -> u32
+        requires { at.0 < length self.now.state.clauses }
+        ensures { (lits : List Lit) → slice_get self.now.state.clauses at.0 ≡ Some lits →
+            result ≡ greatest_level self.now.state.trail.steps lits }
+    {
+        let lits = self.state.store().lits(at);
+        greatest_level(self.state.trail(), lits)
     }
 
     /// Goes back to a level.
     fn go_back(&mut self, level: u32)
-        requires ready { IsReady self.old.store self.old.trail self.old.watches }
-        requires level { level ≤ present_level self.old.trail.steps }
-        ensures ready { IsReady self.new.store self.new.trail self.new.watches }
-        ensures store { self.new.store ≡ self.old.store }
+        requires alive { self.old.state.dead ≡ false }
+        requires level { level ≤ present_level self.old.state.trail.steps }
+        ensures alive { self.new.state.dead ≡ false }
+        ensures store { self.new.state.clauses ≡ self.old.state.clauses }
         ensures learned { self.new.learned ≡ self.old.learned }
-        ensures steps { self.new.trail ≡
-            record self.old.trail { steps = up_to level self.old.trail.steps } }
-        ensures level { present_level self.new.trail.steps ≡ level }
-        ensures trail { IsTrail self.new.trail }
+        ensures steps { self.new.state.trail ≡
+            record self.old.state.trail { steps = up_to level self.old.state.trail.steps } }
+        ensures level { present_level self.new.state.trail.steps ≡ level }
+        ensures trail { IsTrail self.new.state.trail }
         ensures on { (assumed : List Lit) →
-            GoesOn assumed self.old.store self.new.store self.old.trail self.new.trail }
+            GoesOn assumed self.old.state.clauses self.new.state.clauses
+            self.old.state.trail self.new.state.trail }
     {
-        self.trail.vouch();
-        self.trail.back_to(level);
-        self.watches.rewind(&self.trail);
+        self.state.vouch();
+        self.state.back_to(level);
+        self.state.vouch();
     }
 
     /// Makes the next literal true. The answer is a model where there is none left.
     fn choose(&mut self, alloc: Global, assumed: &[Lit]) -> Result<Option<Answer>, NoMemory>
-        requires ready { IsReady self.old.store self.old.trail self.old.watches }
-        requires fixpoint { IsFixpoint self.old.store self.old.trail.steps }
-        requires over { All (IsOver self.old.trail.vars) assumed.now }
-        requires first { AreAssumedFirst assumed.now self.old.trail.steps }
-        ensures ready { OnOk result (IsReady self.new.store self.new.trail self.new.watches) }
+        requires alive { self.old.state.dead ≡ false }
+        requires fixpoint { IsFixpoint self.old.state.clauses self.old.state.trail.steps }
+        requires over { All (IsOver self.old.state.trail.vars) assumed.now }
+        requires first { AreAssumedFirst assumed.now self.old.state.trail.steps }
+        ensures alive { OnOk result (self.new.state.dead ≡ false) }
         ensures on { OnOk result (
-            GoesOn assumed.now self.old.store self.new.store self.old.trail self.new.trail) }
+            GoesOn assumed.now self.old.state.clauses self.new.state.clauses
+            self.old.state.trail self.new.state.trail) }
         ensures answer { IfOk result (λ it.
-            IfSome it (IsSearchAnswer self.old.store assumed.now self.new.trail)) }
+            IfSome it (IsSearchAnswer self.old.state.clauses assumed.now self.new.state.trail)) }
         ensures nearer { IfOk result (λ it. IfNone it (
-            IsLaterState self.old.store self.new.store self.old.trail.steps self.new.trail.steps)) }
+            IsLaterState self.old.state.clauses self.new.state.clauses
+            self.old.state.trail.steps self.new.state.trail.steps)) }
     {
-        match first_not_true(&self.trail, assumed) {
+        match first_not_true(self.state.trail(), assumed) {
             Some(at) => self.assume(alloc, assumed, at),
             None => Ok(self.decide_next(assumed)),
         }
@@ -195,45 +240,75 @@ impl Search {
         assumed: &[Lit],
         at: usize,
     ) -> Result<Option<Answer>, NoMemory>
-        requires ready { IsReady self.old.store self.old.trail self.old.watches }
-        requires over { All (IsOver self.old.trail.vars) assumed.now }
-        requires first { AreAssumedFirst assumed.now self.old.trail.steps }
-        requires next { IsNotTrueAt self.old.trail.steps assumed.now at }
-        requires fixpoint { IsFixpoint self.old.store self.old.trail.steps }
-        ensures ready { OnOk result (IsReady self.new.store self.new.trail self.new.watches) }
+        requires alive { self.old.state.dead ≡ false }
+        requires over { All (IsOver self.old.state.trail.vars) assumed.now }
+        requires first { AreAssumedFirst assumed.now self.old.state.trail.steps }
+        requires next { IsNotTrueAt self.old.state.trail.steps assumed.now at }
+        requires fixpoint { IsFixpoint self.old.state.clauses self.old.state.trail.steps }
+        ensures alive { OnOk result (self.new.state.dead ≡ false) }
         ensures on { OnOk result (
-            GoesOn assumed.now self.old.store self.new.store self.old.trail self.new.trail) }
+            GoesOn assumed.now self.old.state.clauses self.new.state.clauses
+            self.old.state.trail self.new.state.trail) }
         ensures answer { IfOk result (λ it.
-            IfSome it (IsSearchAnswer self.old.store assumed.now self.new.trail)) }
+            IfSome it (IsSearchAnswer self.old.state.clauses assumed.now self.new.state.trail)) }
         ensures nearer { IfOk result (λ it. IfNone it (
-            IsLaterState self.old.store self.new.store self.old.trail.steps self.new.trail.steps)) }
+            IsLaterState self.old.state.clauses self.new.state.clauses
+            self.old.state.trail.steps self.new.state.trail.steps)) }
     {
         let lit = assumed[at];
-        if let Value::Unset = self.trail.value(lit) {
-            self.trail.decide(lit);
+        if let Value::Unset = self.value(lit) {
+            self.state.decide(lit);
             return Ok(None);
         }
-        let mut core = Clause::open();
-        final_core(alloc, &self.store, &self.trail, lit, &mut core)?;
+        let core = self.core_of(alloc, lit)?;
         Ok(Some(Answer::Core(core)))
+    }
+
+    /// Whether a literal is true, false or unset.
+    fn value(&self, lit: Lit) -> Value
+        requires { IsOver self.now.state.trail.vars lit }
+        ensures { result ≡ value_of self.now.state.trail.steps lit }
+    {
+        self.state.trail().value(lit)
+    }
+
+    /// A literal that is false, and the decisions behind it.
+    fn core_of(&self, alloc: Global, failed: Lit) -> Result<Clause, NoMemory>
+        requires over { IsOver self.now.state.trail.vars failed }
+        requires is_false { IsFalse self.now.state.trail.steps failed }
+        ensures core { IfOk result (IsCore self.now.state.trail.steps failed) }
+        ensures unmet { IfOk result (CannotMeet self.now.state.clauses) }
+    {
+        let mut core = Clause::open();
+        final_core(
+            alloc,
+            self.state.store(),
+            self.state.trail(),
+            failed,
+            &mut core,
+        )?;
+        Ok(core)
     }
 
     /// Makes the next variable false. The answer is a model where all are assigned.
     fn decide_next(&mut self, assumed: &[Lit]) -> Option<Answer>
-        requires ready { IsReady self.old.store self.old.trail self.old.watches }
-        requires fixpoint { IsFixpoint self.old.store self.old.trail.steps }
-        requires over { All (IsOver self.old.trail.vars) assumed.now }
-        requires assumed { AreTrue self.old.trail.steps assumed.now }
-        ensures ready { IsReady self.new.store self.new.trail self.new.watches }
-        ensures on { GoesOn assumed.now self.old.store self.new.store self.old.trail
-            self.new.trail }
-        ensures answer { IfSome result (IsSearchAnswer self.old.store assumed.now self.new.trail) }
+        requires alive { self.old.state.dead ≡ false }
+        requires fixpoint { IsFixpoint self.old.state.clauses self.old.state.trail.steps }
+        requires over { All (IsOver self.old.state.trail.vars) assumed.now }
+        requires assumed { AreTrue self.old.state.trail.steps assumed.now }
+        ensures alive { self.new.state.dead ≡ false }
+        ensures on { GoesOn assumed.now self.old.state.clauses self.new.state.clauses
+            self.old.state.trail self.new.state.trail }
+        ensures answer { IfSome result (
+            IsSearchAnswer self.old.state.clauses assumed.now self.new.state.trail) }
         ensures nearer { IfNone result (
-            IsLaterState self.old.store self.new.store self.old.trail.steps self.new.trail.steps) }
+            IsLaterState self.old.state.clauses self.new.state.clauses
+            self.old.state.trail.steps self.new.state.trail.steps) }
     {
-        match least_unset(&self.trail) {
+        self.state.vouch();
+        match least_unset(self.state.trail()) {
             Some(lit) => {
-                self.trail.decide(lit);
+                self.state.decide(lit);
                 None
             }
             None => Some(Answer::Model),

@@ -21,7 +21,11 @@ pub fn lists_of_clauses_are_copied(alloc: Global) -> Result<bool, NoMemory> {
     units.push(alloc, clause)?;
     let again = units.copy(alloc)?;
     units.push(alloc, Clause::open())?;
-    Ok(units.len() == 2 && again.len() == 1 && again.get(0).as_slice() == [Lit(4), Lit(7)].as_slice())
+    Ok(
+        units.len() == 2
+            && again.len() == 1
+            && again.get(0).as_slice() == [Lit(4), Lit(7)].as_slice(),
+    )
 }
 
 /// Whether a clause takes what is put into it and gives up what is cut off.

@@ -1,17 +1,16 @@
 // Small sets of clauses whose answers are known, and random ones whose answers are compared with
 // what all assignments say, and what they taught with slow unit propagation. Literal 2 says that
 // variable 1 is true, literal 3 that it is false.
-ghost use Rattle.std.specs.Prelude.{◌≡◌, ◌<◌, ◌≤◌, ◌^◌, All, IfOk, OnOk};
-ghost use Rattle.propagator.specs.Watched.{IsReady};
-ghost use Rattle.trial_learning.specs.Search.{IsReadyOver};
+ghost use Rattle.std.specs.Prelude.{◌≡◌, ◌<◌, ◌≤◌, ◌^◌, false, All, IfOk, OnOk};
+ghost use Rattle.trial_learning.specs.Search.{IsAliveOver};
 ghost use Rattle.clause_store.specs.Clause.{IsOver};
 
 use crate::all_assignments::is_right;
 use crate::random::{Draws, clause_of, lits_of, random_clause, random_lits};
 use crate::search::{Answer, Search};
-use crate::{propagation_scenes, store_scenes, unit_scenes};
 use crate::unit_checks::are_confirmed;
-use clause_store::{Lit, NoMemory};
+use crate::{propagation_scenes, store_scenes, unit_scenes};
+use clause_store::{Lit, NoMemory, Store};
 use conflict_learning::Learned;
 use std::alloc::Global;
 use std::test::Fail;
@@ -135,10 +134,10 @@ const CASES: [Case; 9] = [
 
 /// A search over the clauses of a case.
 fn search_of(alloc: Global, case: &Case) -> Result<Search, NoMemory>
-    ensures { IfOk result (IsReadyOver case.now.vars) }
+    ensures { IfOk result (IsAliveOver case.now.vars) }
 {
     let vars = case.vars as u32;
-    let mut search = Search::open(alloc, vars, Learned::open())?;
+    let mut search = Search::open(alloc, vars, Store::open(), Learned::open())?;
     for codes in case.clauses {
         let clause = clause_of(alloc, vars, codes)?;
         search.add(alloc, clause.as_slice())?;
@@ -149,13 +148,13 @@ fn search_of(alloc: Global, case: &Case) -> Result<Search, NoMemory>
 /// Whether a case gets its answer, which is right, and teaches what it says.
 fn is_shown(alloc: Global, case: &Case) -> Result<bool, NoMemory> {
     let mut search = search_of(alloc, case)?;
-    let count = search.store.len();
+    let count = search.state.store().len();
     let assumed = lits_of(alloc, case.vars as u32, case.assumed)?;
     match search.solve(alloc, assumed.as_slice(), 100)? {
         None => Ok(false),
         Some(answer) => {
             let right = is_right(&search, count, assumed.as_slice(), &answer);
-            let taught = search.store.len().saturating_sub(count) == case.learned;
+            let taught = search.state.store().len().saturating_sub(count) == case.learned;
             Ok(right && taught && is_taught(&search, case) && is_expected(&answer, case))
         }
     }
@@ -208,9 +207,9 @@ fn random_search(
 ) -> Result<Search, NoMemory>
     requires some { 0 < vars }
     requires few { vars < 2 ^ 10 }
-    ensures { IfOk result (IsReadyOver vars) }
+    ensures { IfOk result (IsAliveOver vars) }
 {
-    let mut search = Search::open(alloc, vars, learned)?;
+    let mut search = Search::open(alloc, vars, Store::open(), learned)?;
     'clauses: for _ in 0..vars * 43 / 10 {
         let clause = random_clause(alloc, vars, draws)?;
         search.add(alloc, clause.as_slice())?;
@@ -225,10 +224,10 @@ fn is_answered(
     count: usize,
     assumed: &[Lit],
 ) -> Result<bool, NoMemory>
-    requires ready { IsReady search.old.store search.old.trail search.old.watches }
-    requires over { All (IsOver search.old.trail.vars) assumed.now }
-    ensures ready { OnOk result (IsReady search.new.store search.new.trail search.new.watches) }
-    ensures vars { OnOk result (search.new.trail.vars ≡ search.old.trail.vars) }
+    requires alive { search.old.state.dead ≡ false }
+    requires over { All (IsOver search.old.state.trail.vars) assumed.now }
+    ensures alive { OnOk result (search.new.state.dead ≡ false) }
+    ensures vars { OnOk result (search.new.state.trail.vars ≡ search.old.state.trail.vars) }
 {
     match search.solve(alloc, assumed, 1000)? {
         None => Ok(false),
@@ -256,17 +255,17 @@ fn round_of(
     requires few { vars < 2 ^ 10 }
 {
     let mut search = random_search(alloc, vars, learned, draws)?;
-    let count = search.store.len();
+    let count = search.state.store().len();
     let mut right = true;
     'sizes: for size in 0..4u32 {
         let assumed = random_lits(alloc, vars, size, draws)?;
         right &= is_answered(alloc, &mut search, count, assumed.as_slice())?;
     }
-    let confirmed = are_confirmed(alloc, &search.store, count)?;
+    let confirmed = are_confirmed(alloc, search.state.store(), count)?;
     Ok(Round {
         right,
         confirmed,
-        conflicts: search.store.len().saturating_sub(count),
+        conflicts: search.state.store().len().saturating_sub(count),
         learned: search.into_learned(),
     })
 }

@@ -1,28 +1,23 @@
-use Rattle.std.proofs.Common.{◌≢◌, ℕ, List, get_or, inl, refl, sym, subst, ◌∙◌}
+use Rattle.std.proofs.Common.{◌≢◌, ℕ, List, get_or, ap, inl, refl, sym, subst, ◌∙◌}
 use Rattle.std.proofs.lemmas.List.Elements.{Contains-get_or}
 use Rattle.std.proofs.lemmas.Option.{get_or_from_slice_get}
 use Rattle.clause_store.specs.declared.literal.Lit.{Lit}
 use Rattle.clause_store.specs.declared.literal.Value.TheVariants.{Yes}
 use Rattle.clause_store.specs.declared.step.Step.{Step}
 use Rattle.clause_store.specs.Trail.{value_of}
-use Rattle.propagator.proofs.WatchedLemmas.{ready_with_more}
 use Rattle.trial_learning.specs.Search.{IsNotTrueAt}
-use Rattle.trial_learning.proofs.GoingLemmas.{goes_on_decided}
+use Rattle.trial_learning.proofs.GoingLemmas.{goes_on_decided, goes_on_in_same}
 use Rattle.trial_learning.proofs.AnswerLemmas.{core_unmet, is_no}
 use Rattle.trial_learning.proofs.search.Search.assume.Goals as goal
 
-pub returns-in-Unset-clause-ready : goal.returns-in-Unset-clause-ready
-returns-in-Unset-clause-ready c =
-    ready_with_more c.args.self.now.store c.args.self.now.trail c.decide.new.self
-    c.args.self.now.watches _ c.requires.ready c.decide.ensures.steps
-    (c.decide.ensures.stays c.args.self.now.store c.requires.ready.of_store)
-
 pub returns-in-Unset-clause-on : goal.returns-in-Unset-clause-on
 returns-in-Unset-clause-on c =
-    goes_on_decided c.args.assumed.now c.args.self.now.store c.args.self.now.trail c.decide.new.self
-    _ c.decide.ensures.steps
+    goes_on_in_same c.args.assumed.now c.args.self.now.state.clauses c.decide.new.self.clauses
+    c.args.self.now.state.trail c.decide.new.self.trail (ap (λ it. it.clauses) c.decide.ensures)
+    (goes_on_decided c.args.assumed.now c.args.self.now.state.clauses c.args.self.now.state.trail
+    c.decide.new.self.trail _ (ap (λ it. it.trail) c.decide.ensures)
     (inl (Contains-get_or c.args.assumed.now c.args.at (record { 0 = 0 }) c.requires.next.within))
-    c.requires.fixpoint refl
+    c.requires.fixpoint refl)
 
 -- the assumed literal that was read isn't true
 not_true : (steps : List Step) (assumed : List Lit) (at : ℕ) (d : Lit)
@@ -31,20 +26,20 @@ not_true steps assumed at d next =
     subst (λ lit. value_of steps lit ≢ Yes)
     (sym (get_or_from_slice_get assumed at next.lit d next.there)) next.not_true
 
-pub final_core-requires-clause-is_false : goal.final_core-requires-clause-is_false
-final_core-requires-clause-is_false c =
+pub core_of-requires-clause-is_false : goal.core_of-requires-clause-is_false
+core_of-requires-clause-is_false c =
     is_no _
-    (not_true c.args.self.now.trail.steps c.args.assumed.now c.args.at (record { 0 = 0 })
+    (not_true c.args.self.now.state.trail.steps c.args.assumed.now c.args.at (record { 0 = 0 })
     c.requires.next)
     (λ unset. c.in_default.not-Unset (c.value.ensures ∙ unset))
 
 pub returns-clause-answer : goal.returns-clause-answer
 returns-clause-answer c =
-    core_unmet c.args.self.now.store c.args.self.now.trail.steps c.args.assumed.now _
-    c.final_core.new.core c.requires.first
+    core_unmet c.args.self.now.state.clauses c.args.self.now.state.trail.steps c.args.assumed.now _
+    c.in_ok-core.core c.requires.first
     (Contains-get_or c.args.assumed.now c.args.at (record { 0 = 0 }) c.requires.next.within)
     (is_no _
-    (not_true c.args.self.now.trail.steps c.args.assumed.now c.args.at (record { 0 = 0 })
+    (not_true c.args.self.now.state.trail.steps c.args.assumed.now c.args.at (record { 0 = 0 })
     c.requires.next)
     (λ unset. c.in_default.not-Unset (c.value.ensures ∙ unset)))
-    c.in_ok-final_core.ensures.core c.in_ok-final_core.ensures.unmet
+    c.in_ok-core.ensures.core c.in_ok-core.ensures.unmet
