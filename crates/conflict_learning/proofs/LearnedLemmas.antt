@@ -419,6 +419,7 @@ greatest_more steps lits at d within =
 
 -- ---- the conflict
 
+-- the literals of a conflict are false
 pub conflict_false : (clauses : List (List Lit)) (steps : List Step) (at : ClauseRef)
     (lits : List Lit) → IsConflict clauses steps at → slice_get clauses at.0 ≡ Some lits
     → All (IsFalse steps) lits
