@@ -134,7 +134,7 @@ pub record Digits (so_far : ℕ) (bytes : List ℕ) (value : ℕ) (rest : List �
 
 -- no digit stands at the end of a token
 no_digits : (so_far : ℕ) (bytes : List ℕ) (value : ℕ) (rest : List ℕ)
-    → done (so_far, bytes) ≡ Ok (value, rest) → is_token_end bytes ≡ true
+    → done {A = ℕ × List ℕ} (so_far, bytes) ≡ Ok (value, rest) → is_token_end bytes ≡ true
     → Digits so_far bytes value rest
 no_digits so_far bytes value rest e ended =
     let same = ok_is (so_far, bytes) (value, rest) e in

@@ -19,8 +19,11 @@ level_at-requires c =
 
 pub index_mut-requires : goal.index_mut-requires
 index_mut-requires c =
-    lemma.note_within c.args.trail.now c.args.self.now c.args.lit _ c.requires.under_way
-    c.requires.is_false c.var-place.ensures
+    omega (
+      arith,
+      lemma.note_within c.args.trail.now c.args.self.now c.args.lit _ c.requires.under_way
+          c.requires.is_false c.var-place.ensures,
+    )
 
 pub overflow_add-self : goal.overflow_add-self
 overflow_add-self c =
@@ -42,8 +45,11 @@ returns-then-level_at-self c =
 
 pub index_mut-requires-2 : goal.index_mut-requires-2
 index_mut-requires-2 c =
-    lemma.note_within c.args.trail.now c.args.self.now c.args.lit _ c.requires.under_way
-    c.requires.is_false c.var-place.ensures
+    omega (
+      arith,
+      lemma.note_within c.args.trail.now c.args.self.now c.args.lit _ c.requires.under_way
+          c.requires.is_false c.var-place.ensures,
+    )
 
 pub returns : goal.returns
 returns c =
