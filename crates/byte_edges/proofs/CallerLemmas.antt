@@ -1,9 +1,10 @@
 -- What callers need of the words on sources and sinks: writes in turn make one write.
-use Rattle.std.proofs.Common.{◌<◌, drop, get_or, ◌≡◌, ◌≤◌, ◌+◌, ◌++◌, ℕ, List, [], Option, Some}
+use Rattle.std.proofs.Common.{◌<◌, drop, get_or, ◌≡◌, ◌≤◌, ◌+◌, ◌++◌, ◌∷◌, ℕ, List, []}
+use Rattle.std.proofs.Common.{Option, Some}
 use Rattle.std.proofs.Common.{None, Ok, Err, length, take, min, sym, ◌∙◌, ap, arith, append_assoc}
 use Rattle.std.specs.Prelude.{Result, IsErr}
 use Rattle.std.proofs.lemmas.List.{take_more, take-append-drop, append-nil, take-append-le}
-use Rattle.std.proofs.lemmas.List.{take_min}
+use Rattle.std.proofs.lemmas.List.{take_min, take_all}
 use Rattle.std.proofs.Math.Seq.{take-append-add}
 use Rattle.std.proofs.lemmas.Result.{on_ok_weaker, on_err_weaker}
 use Rattle.std.specs.List.{flat_map}
@@ -11,6 +12,7 @@ use Rattle.std.proofs.lemmas.Grind.{flat_map-append}
 use Rattle.byte_edges.specs.Faults.{Rose}
 use Rattle.byte_edges.specs.Edges.{Appended, AppendedPrefix, Writes}
 use Rattle.byte_edges.specs.Memory.{PageState}
+use Rattle.byte_edges.specs.declared.writing.WriteFault.{WriteFault}
 
 -- a rise shows at each later count
 pub rose_later : (before now later : ℕ) → Rose before now → now ≤ later → Rose before later
@@ -114,35 +116,65 @@ module _ {K : Type 0} {written : K → Option (List ℕ)} {faults : K → ℕ} w
       → Writes written faults old new same result
   writes_same equal one = rw (← equal) one
 
--- the texts of a list's first elements, and of the next
-flat_map-take-more : {X : Type 0} (text : X → List ℕ) (xs : List X) (i : ℕ) (d : X) → i < length xs
-    → flat_map text (take i xs) ++ text (get_or xs i d) ≡ flat_map text (take (i + 1) xs)
-flat_map-take-more text xs i d within =
-    rw (take_more xs i d within, flat_map-append)
-    (ap (λ last. flat_map text (take i xs) ++ last) (sym (append-nil (text (get_or xs i d)))))
+-- all of these bytes were written
+abbrev pub Wrote : {K : Type 0} (written : K → Option (List ℕ)) (faults : K → ℕ) (old new : K)
+    → List ℕ → Type 0
+Wrote written faults old new bytes =
+    Writes {E = WriteFault} written faults old new bytes (Ok (tt {0}))
 
--- the texts of a list's first elements, and of the rest
-flat_map-take-drop : {X : Type 0} (text : X → List ℕ) (xs : List X) (i : ℕ)
-    → flat_map text (take i xs) ++ flat_map text (drop i xs) ≡ flat_map text xs
-flat_map-take-drop text xs i =
-    sym (flat_map-append text (take i xs) (drop i xs)) ∙ ap (flat_map text) (take-append-drop i xs)
+-- An item of a list, given by its place, and the text of each item.
+module _ {X : Type 0} (text : X → List ℕ) (items : List X) (default : X) (at : ℕ) (item : X)
+    (within : at < length items) (is : item ≡ get_or items at default) where
+  -- the texts of the first items, and of the next
+  texts_more : flat_map text (take at items) ++ text item ≡ flat_map text (take (at + 1) items)
+  texts_more =
+      sym (ap (flat_map text) (take_more items at default within)
+      ∙ flat_map-append text (take at items) (get_or items at default ∷ [])
+      ∙ ap (λ last. flat_map text (take at items) ++ last)
+      (append-nil (text (get_or items at default)) ∙ ap text (sym is)))
 
+  -- the texts of the first items, of the next, and of the rest
+  texts_rest : (flat_map text (take at items) ++ text item)
+      ++ flat_map text (drop (at + 1) items) ≡ flat_map text items
+  texts_rest =
+      ap (λ front. front ++ flat_map text (drop (at + 1) items)) texts_more
+      ∙ sym (flat_map-append text (take (at + 1) items) (drop (at + 1) items))
+      ∙ ap (flat_map text) (take-append-drop (at + 1) items)
+
+-- A loop that writes the texts of a list's items in turn: `Wrote .. (flat_map text (take at
+-- items))`
+-- is its invariant.
 module _ {K : Type 0} {written : K → Option (List ℕ)} {faults : K → ℕ} where
-  -- a loop that writes the texts of a list's elements came one element on
-  pub writes_next : {X T U E F : Type 0} {old mid new : K} {value : T} {result : Result U F}
-      (text : X → List ℕ) (xs : List X) (i : ℕ) (d : X) → i < length xs
-      → Writes {E = E} written faults old mid (flat_map text (take i xs)) (Ok value)
-      → Writes written faults mid new (text (get_or xs i d)) result
-      → Writes written faults old new (flat_map text (take (i + 1) xs)) result
-  writes_next text xs i d within one two =
-      writes_same (flat_map-take-more text xs i d within) (writes_then one two)
+  -- one more item was written
+  pub wrote_more : {X T E : Type 0} {old mid new : K} {value : T} (text : X → List ℕ)
+      (items : List X) (default : X) (at : ℕ) (item : X) → at < length items
+      → item ≡ get_or items at default
+      → Wrote written faults old mid (flat_map text (take at items))
+      → Writes {E = E} written faults mid new (text item) (Ok value)
+      → Wrote written faults old new (flat_map text (take (at + 1) items))
+  wrote_more text items default at item within is before one =
+      writes_same (texts_more text items default at item within is)
+      (writes_then before (writes_ok one))
 
-  -- such a loop stopped at a fault
-  pub writes_stopped : {X T E : Type 0} {old new : K} {error : E} (text : X → List ℕ) (xs : List X)
-      (i : ℕ) → Writes {T = T} written faults old new (flat_map text (take i xs)) (Err error)
-      → Writes {T = T} written faults old new (flat_map text xs) (Err error)
-  writes_stopped text xs i one =
-      writes_same (flat_map-take-drop text xs i) (writes_longer (flat_map text (drop i xs)) one)
+  -- an item wasn't written whole
+  pub wrote_fault : {X T U E F : Type 0} {old mid new : K} {error : E} {result : Result U F}
+      (text : X → List ℕ) (items : List X) (default : X) (at : ℕ) (item : X) → IsErr result
+      → at < length items → item ≡ get_or items at default
+      → Wrote written faults old mid (flat_map text (take at items))
+      → Writes {T = T} written faults mid new (text item) (Err error)
+      → Writes written faults old new (flat_map text items) result
+  wrote_fault text items default at item fails within is before one =
+      writes_fault fails
+      (writes_same (texts_rest text items default at item within is)
+      (writes_longer (flat_map text (drop (at + 1) items)) (writes_then before one)))
+
+  -- all items were written
+  pub wrote_all : {X T E : Type 0} {old new : K} {value : T} (text : X → List ℕ)
+      (items : List X) (at : ℕ) → length items ≤ at
+      → Wrote written faults old new (flat_map text (take at items))
+      → Writes {E = E} written faults old new (flat_map text items) (Ok value)
+  wrote_all text items at whole done =
+      writes_same (ap (flat_map text) (take_all at items whole)) (writes_ok done)
 
 -- what was written to an empty page is on it
 pub page_holds : {T E : Type 0} {faults : PageState → ℕ} {old new : PageState} {text : List ℕ}

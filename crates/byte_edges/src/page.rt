@@ -11,9 +11,8 @@ use std::marker::Model;
 const ROOM: usize = 4096;
 
 /// Up to 4096 bytes, on the stack. A write that doesn't fit fails and leaves the page as it is. So
-/// a
-/// text of several fields is gathered here first and then goes out by one write; where it doesn't
-/// fit, it is written field by field.
+/// a text of several fields is gathered here first and then goes out by one write; where it
+/// doesn't fit, it is written field by field.
 #[derive(Drop)]
 pub struct Page {
     cells: [u8; ROOM],

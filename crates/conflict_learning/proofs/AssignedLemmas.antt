@@ -50,6 +50,7 @@ find_here p (y ∷ xs) x is = go (p y) is (find_here p xs x)
 pub here_at : {X : Type 0} (xs : List X) (at : ℕ) (x : X) → slice_get xs at ≡ Some x → Contains xs x
 here_at xs at x is = (at, slice_get_within xs at x is, get_or_from_slice_get xs at x x is)
 
+-- the assignment of a variable in a front is the one in the whole
 pub step_of_before : (n : ℕ) (steps : List Step) (var : ℕ) (step : Step)
     → step_of (take n steps) var ≡ Some step → step_of steps var ≡ Some step
 step_of_before n steps var step is =
@@ -66,6 +67,7 @@ pub record IsRefuter (steps : List Step) (lit : Lit) : Type 0 where
   pub same : variable step.lit ≡ variable lit
   pub negates : step.lit ≡ negation lit
 
+-- the assignment that makes a literal false
 pub refuter : (steps : List Step) (lit : Lit) → IsFalse steps lit → IsRefuter steps lit
 refuter steps lit is = go (step_of steps (variable lit)) refl is
   where

@@ -263,6 +263,21 @@ marks_more trail last lits lit start old new markable all marks =
         (marks_at trail last place at.0 lits lit start old (markable.before place found) found at.1
         all)
 
+-- a mark is not that of a later assignment
+pub mark_early : (trail : Assigned) (last low at : ℕ) (lits core : List Lit)
+    → All (IsMarkable trail low) lits → (some : Any (IsMarkOf trail.steps last core at) lits)
+    → some.4.place ≤ low
+mark_early trail last low at lits core markable some =
+    (All-contains (IsMarkable trail low) lits some.1 markable (some.0, some.2, some.3)).before
+    some.4.place some.4.found
+
+-- so its cell tells its place
+pub mark_back : (trail : Assigned) (last at : ℕ) (lits core : List Lit)
+    → All (IsMarkable trail last) lits → (some : Any (IsMarkOf trail.steps last core at) lits)
+    → last + 1 - at ≡ some.4.place
+mark_back trail last at lits core markable some =
+    omega (arith, some.4.at_is, mark_early trail last last at lits core markable some)
+
 -- the cells stay right
 pub cells_marked : (trail : Assigned) (last : ℕ) (lits old new : List Lit)
     → AreCells trail.steps last old → All (IsMarkable trail last) lits
@@ -278,10 +293,7 @@ cells_marked trail last lits old new cells markable marks =
                 (subst (λ lit. lit ≢ blank) same filled)
             | inr some ↦
                 let mark = some.4 in
-                let low : mark.place ≤ last =
-                (All-contains (IsMarkable trail last) lits some.1 markable
-                (some.0, some.2, some.3)).before mark.place mark.found in
-                let back : last + 1 - at ≡ mark.place = omega (arith, mark.at_is, low) in
+                let back = mark_back trail last at lits new markable some in
                 mark.holds ∙ ap (λ s. s.lit)
                 (same_Some mark.step step
                 (sym mark.there ∙ ap (slice_get trail.steps) (sym back) ∙ there))

@@ -35,6 +35,7 @@ use Rattle.conflict_learning.proofs.GivenLemmas.{forced_known, ground_known}
 use Rattle.conflict_learning.proofs.CellLemmas.{IsFalseAt, cells_marked, false_anywhere, false_at}
 use Rattle.conflict_learning.proofs.CellLemmas.{filled_passes, marks_more, marks_none, over_filled}
 use Rattle.conflict_learning.proofs.CellLemmas.{passes_filled, reason_markable, step_filled}
+use Rattle.conflict_learning.proofs.CellLemmas.{mark_early, mark_back}
 
 -- ---- explaining
 
@@ -96,10 +97,7 @@ filled_stays trail last lits old new at cells markable marks first filled =
       | inl same ↦ same
       | inr some ↦
           let mark = some.4 in
-          let low : mark.place ≤ last =
-          (All-contains (IsMarkable trail last) lits some.1 markable
-          (some.0, some.2, some.3)).before mark.place mark.found in
-          let back : last + 1 - at ≡ mark.place = omega (arith, mark.at_is, low) in
+          let back = mark_back trail last at lits new markable some in
           mark.holds
           ∙ sym
           (cells.holds at mark.step first (ap (slice_get trail.steps) back ∙ mark.there)
@@ -114,11 +112,14 @@ later_stays trail last at lits old new k low markable marks before =
     elim (marks.stays k) [
       | inl same ↦ same
       | inr some ↦
-          let mark = some.4 in
-          let early : mark.place ≤ last + 1 - at =
-          (All-contains (IsMarkable trail (last + 1 - at)) lits some.1 markable
-          (some.0, some.2, some.3)).before mark.place mark.found in
-          absurd (omega (arith, mark.at_is, early, before, low))
+          absurd
+          (omega (
+            arith,
+            some.4.at_is,
+            mark_early trail last (last + 1 - at) k lits new markable some,
+            before,
+            low,
+          ))
     ]
 
 -- the negation of a literal of the reason is known where its cell is, and at level 0

@@ -419,11 +419,30 @@ greatest_more steps lits at d within =
 
 -- ---- the conflict
 
+-- the literals of a conflict are false
 pub conflict_false : (clauses : List (List Lit)) (steps : List Step) (at : ClauseRef)
     (lits : List Lit) → IsConflict clauses steps at → slice_get clauses at.0 ≡ Some lits
     → All (IsFalse steps) lits
 conflict_false clauses steps at lits is named =
     subst (All (IsFalse steps)) (same_Some is.clause lits (sym is.named ∙ named)) is.is_false
+
+-- the walk from a conflict to its end, from what each of its calls did
+pub is_done : {clauses : List (List Lit)} {trail : Assigned} {at : ClauseRef} {conflict : List Lit}
+    {begun noted done : Walk} {lit : Lit} → IsTrailOf trail.steps clauses
+    → IsConflict clauses trail.steps at → slice_get clauses at.0 ≡ Some conflict
+    → Begins trail begun → NotesAll trail begun noted conflict
+    → ResolvesTo clauses trail noted done lit
+    → IsDone clauses trail conflict begun noted done lit
+is_done {clauses = clauses} {trail = trail} {at = at} {conflict = conflict} of is named begins notes
+    resolves =
+    record {
+      of = of;
+      here = here_at clauses at.0 conflict named;
+      wrong = conflict_false clauses trail.steps at conflict is named;
+      begins = begins;
+      notes = notes;
+      resolves = resolves;
+    }
 
 -- its literals may be noted
 pub conflict_notable : (trail : Assigned) (begun : Walk) (lits : List Lit) → Begins trail begun

@@ -45,6 +45,7 @@ beside_differs : (other lit : Lit) → not (eqb other.0 lit.0) ≡ true → othe
 beside_differs other lit passes same =
     false≢true (sym (ap not (eq-eqb other.0 lit.0 (ap (λ l. l.0) same))) ∙ passes)
 
+-- the level to go back to is below the present one
 pub back_is_lower : BackIsLower
 back_is_lower steps clause lit above asserts =
     greatest_below steps (others clause lit) (present_level steps) above
@@ -63,6 +64,7 @@ assigned_by steps lit level wrong below =
     let found = level_found steps lit by.step by.found in
     subst (λ o. IsSomeAnd o (λ at. at ≤ level)) (sym found.1) (subst (λ n. n ≤ level) found.0 below)
 
+-- after going back the learned clause is a unit, of its asserting literal
 pub learned_is_a_unit : LearnedIsAUnit
 learned_is_a_unit trail clause lit back is above wrong asserts back_is =
     record {

@@ -13,7 +13,7 @@ use Rattle.std.proofs.lemmas.List.Quantifiers.{all_pairs_push}
 use Rattle.std.proofs.lemmas.Option.{same_Some, slice_get-get_or}
 use Rattle.clause_store.specs.declared.literal.Lit.{Lit}
 use Rattle.clause_store.specs.declared.step.Step.{Step}
-use Rattle.clause_store.specs.Clause.{variable, negation, HasAll, IsOver}
+use Rattle.clause_store.specs.Clause.{variable, negation, HasAll, HasNoVariableTwice, IsOver}
 use Rattle.clause_store.specs.Entailment.{negations}
 use Rattle.clause_store.specs.Trail.{Assigned, IsTrail, step_of, present_level}
 use Rattle.clause_store.proofs.StepLemmas.{trail_fits}
@@ -115,6 +115,32 @@ assigned_more trail marks lit step here same before var marked =
       | inr other ↦ before var (marked_before marks (variable lit) var other marked)
     ]
 
+-- the variable of a false literal was marked, and the clause is this
+progress_marked : (trail : Assigned) (marks : List Bool) (clause : List Lit)
+    (level unresolved at : ℕ) (lit : Lit) (new : List Lit) (count : ℕ)
+    → IsProgress trail marks clause level unresolved at → IsFresh trail marks level at lit
+    → count ≡ unresolved + one_if (eqb (level_at trail.steps lit) level)
+    → All (IsLower trail.steps (set marks (variable lit) true) level) new
+    → HasNoVariableTwice new
+    → All (λ step. IsMarked (set marks (variable lit) true) (variable step.lit)
+    → step.level ≢ level → Contains new (negation step.lit)) trail.steps
+    → IsProgress trail (set marks (variable lit) true) new level count at
+progress_marked trail marks clause level unresolved at lit new count way f more lower once kept =
+    record {
+      is_trail = way.is_trail;
+      few = way.few;
+      sized = omega (arith, length-set marks (variable lit) true, way.sized);
+      level_is = way.level_is;
+      within = way.within;
+      assigned =
+          assigned_more trail marks lit f.by.step (from_front at trail.steps f.by.step f.by.here)
+          f.by.same way.assigned;
+      counted = omega (arith, way.counted, f.count, more);
+      lower = lower;
+      once = once;
+      kept = kept;
+    }
+
 -- one more of the present level is open
 pub progress_open : (trail : Assigned) (marks : List Bool) (clause : List Lit)
     (level unresolved at : ℕ) (lit : Lit) → IsProgress trail marks clause level unresolved at
@@ -125,30 +151,20 @@ progress_open trail marks clause level unresolved at lit way wrong unmarked same
     let f = fresh trail marks clause level unresolved at lit way wrong unmarked in
     let one : one_if (eqb (level_at trail.steps lit) level) ≡ 1 =
     ap one_if (eq-eqb (level_at trail.steps lit) level same) in
-    record {
-      is_trail = way.is_trail;
-      few = way.few;
-      sized = omega (arith, length-set marks (variable lit) true, way.sized);
-      level_is = way.level_is;
-      within = way.within;
-      assigned =
-          assigned_more trail marks lit f.by.step (from_front at trail.steps f.by.step f.by.here)
-          f.by.same way.assigned;
-      counted = omega (arith, way.counted, f.count, one);
-      lower = lower_kept trail.steps marks level (variable lit) clause f.inside way.lower;
-      once = way.once;
-      kept = λ k d inside marked differs.
-          elim (cases_eq (variable (get_or trail.steps k d).lit) (variable lit)) [
-            | inl it ↦ absurd
-                (differs
-                (sym
-                (level_by trail lit (get_or trail.steps k d) way.is_trail
-                (All-contains_itself trail.steps k d inside) it) ∙ same))
-            | inr other ↦ way.kept k d inside
-                (marked_before marks (variable lit) (variable (get_or trail.steps k d).lit) other
-                marked) differs
-          ];
-    }
+    progress_marked trail marks clause level unresolved at lit clause (unresolved + 1) way f
+    (omega (arith, one))
+    (lower_kept trail.steps marks level (variable lit) clause f.inside way.lower) way.once
+    (λ k d inside marked differs.
+    elim (cases_eq (variable (get_or trail.steps k d).lit) (variable lit)) [
+      | inl it ↦ absurd
+          (differs
+          (sym
+          (level_by trail lit (get_or trail.steps k d) way.is_trail
+          (All-contains_itself trail.steps k d inside) it) ∙ same))
+      | inr other ↦ way.kept k d inside
+          (marked_before marks (variable lit) (variable (get_or trail.steps k d).lit) other
+          marked) differs
+    ])
 
 -- one more literal of a lower level is in the clause
 pub progress_lower : (trail : Assigned) (marks : List Bool) (clause : List Lit)
@@ -164,45 +180,35 @@ progress_lower trail marks clause level unresolved at lit way wrong unmarked dif
     subst (λ n. n ≤ present_level trail.steps) (sym f.level_is)
     (All-contains (λ s. s.level ≤ present_level trail.steps) trail.steps f.by.step
     (below_present trail.steps) (from_front at trail.steps f.by.step f.by.here)) in
-    record {
-      is_trail = way.is_trail;
-      few = way.few;
-      sized = omega (arith, length-set marks (variable lit) true, way.sized);
-      level_is = way.level_is;
-      within = way.within;
-      assigned =
-          assigned_more trail marks lit f.by.step (from_front at trail.steps f.by.step f.by.here)
-          f.by.same way.assigned;
-      counted = omega (arith, way.counted, f.count, none);
-      lower =
-          All-push (IsLower trail.steps (set marks (variable lit) true) level) clause lit
-          (lower_kept trail.steps marks level (variable lit) clause f.inside way.lower)
-          (record {
-            is_false = false_later at trail.steps lit wrong;
-            below =
-                omega (arith, low, way.level_is, differ);
-            marked =
-                marked_new marks (variable lit) f.inside;
-          });
-      once = all_pairs_push (λ one two. variable one ≢ variable two) clause lit way.once
-          (λ k d inside same. false≢true
-          (sym unmarked ∙ subst (IsMarked marks) same (way.lower k d inside).marked));
-      kept = λ k d inside marked differs.
-          elim (cases_eq (variable (get_or trail.steps k d).lit) (variable lit)) [
-            | inl it ↦
-                let is : get_or trail.steps k d ≡ f.by.step =
-                step_by trail lit (get_or trail.steps k d) f.by.step way.is_trail
-                (All-contains_itself trail.steps k d inside) it f.found in
-                subst (Contains (clause ++ lit ∷ []))
-                (sym (ap negation (ap (λ s. s.lit) is ∙ f.by.negates) ∙ negation-negation lit))
-                (Contains-push clause lit)
-            | inr other ↦ Contains-append_left clause (lit ∷ [])
-                (negation (get_or trail.steps k d).lit)
-                (way.kept k d inside
-                (marked_before marks (variable lit) (variable (get_or trail.steps k d).lit)
-                other marked) differs)
-          ];
-    }
+    progress_marked trail marks clause level unresolved at lit (clause ++ lit ∷ []) unresolved way f
+    (omega (arith, none))
+    (All-push (IsLower trail.steps (set marks (variable lit) true) level) clause lit
+    (lower_kept trail.steps marks level (variable lit) clause f.inside way.lower)
+    (record {
+      is_false = false_later at trail.steps lit wrong;
+      below =
+          omega (arith, low, way.level_is, differ);
+      marked =
+          marked_new marks (variable lit) f.inside;
+    }))
+    (all_pairs_push (λ one two. variable one ≢ variable two) clause lit way.once
+    (λ k d inside same. false≢true
+    (sym unmarked ∙ subst (IsMarked marks) same (way.lower k d inside).marked)))
+    (λ k d inside marked differs.
+    elim (cases_eq (variable (get_or trail.steps k d).lit) (variable lit)) [
+      | inl it ↦
+          let is : get_or trail.steps k d ≡ f.by.step =
+          step_by trail lit (get_or trail.steps k d) f.by.step way.is_trail
+          (All-contains_itself trail.steps k d inside) it f.found in
+          subst (Contains (clause ++ lit ∷ []))
+          (sym (ap negation (ap (λ s. s.lit) is ∙ f.by.negates) ∙ negation-negation lit))
+          (Contains-push clause lit)
+      | inr other ↦ Contains-append_left clause (lit ∷ [])
+          (negation (get_or trail.steps k d).lit)
+          (way.kept k d inside
+          (marked_before marks (variable lit) (variable (get_or trail.steps k d).lit) other
+          marked) differs)
+    ])
 
 -- ---- literals stay of the store
 
@@ -269,6 +275,13 @@ pub note_over : (trail : Assigned) (walk : Walk) (lit : Lit) → IsUnderWay trai
 note_over trail walk lit way wrong =
     false_over trail lit way.is_trail (false_later walk.at trail.steps lit wrong)
 
+-- so it has a mark
+pub note_within : (trail : Assigned) (walk : Walk) (lit : Lit) (place : ℕ) → IsUnderWay trail walk
+    → IsFalse (take walk.at trail.steps) lit → place ≡ variable lit
+    → place < length walk.marks.items
+note_within trail walk lit place way wrong is =
+    omega (arith, (note_over trail walk lit way wrong).last, way.sized, is)
+
 -- what wasn't noted isn't marked
 pub not_noted : (steps : List Step) (walk : Walk) (lit : Lit)
     → (IsNoted steps walk lit → IsTrue false) → is_marked walk.marks.items (variable lit) ≡ false
@@ -300,38 +313,35 @@ notes_nothing trail walk lit way noted =
       stands = λ clauses stands all. all;
     }
 
--- a literal of the present level is noted
-pub notes_open : (trail : Assigned) (old : Walk) (lit : Lit) (new : Walk) → IsUnderWay trail old
+-- a literal was noted where its variable was marked and the clause has what stood in it
+notes_marked : (trail : Assigned) (old : Walk) (lit : Lit) (new : Walk) → IsUnderWay trail old
     → IsFalse (take old.at trail.steps) lit → is_marked old.marks.items (variable lit) ≡ false
-    → level_at trail.steps lit ≡ old.level
-    → new.marks.items ≡ set old.marks.items (variable lit) true → new.clause ≡ old.clause
-    → new.level ≡ old.level → new.unresolved ≡ old.unresolved + 1
-    → new.at ≡ old.at → Notes trail old new lit
-notes_open trail old lit new way wrong unmarked same marks clause level unresolved at =
+    → new.marks.items ≡ set old.marks.items (variable lit) true → new.at ≡ old.at
+    → new.level ≡ old.level → old.unresolved ≤ new.unresolved → IsUnderWay trail new
+    → HasAll new.clause old.clause
+    → ((clauses : List (List Lit)) → StandsIn clauses lit → All (StandsIn clauses) old.clause
+    → All (StandsIn clauses) new.clause)
+    → Notes trail old new lit
+notes_marked trail old lit new way wrong unmarked marks at level more under_way has lower =
     let f =
     fresh trail old.marks.items old.clause old.level old.unresolved old.at lit way wrong
     unmarked in
     record {
-      under_way =
-          progress_same trail (set old.marks.items (variable lit) true) new.marks.items old.clause
-          new.clause old.level new.level (old.unresolved + 1) new.unresolved old.at new.at
-          (sym marks) (sym clause) (sym level) (sym unresolved) (sym at)
-          (progress_open trail old.marks.items old.clause old.level old.unresolved old.at lit way
-          wrong unmarked same);
+      under_way = under_way;
       later = record {
         at = at;
         level = level;
-        unresolved = omega (arith, unresolved);
+        unresolved = more;
         marks =
             λ var is. subst (λ ms. IsMarked ms var) (sym marks)
             (marked_kept old.marks.items (variable lit) var f.inside is);
-        clause = subst (λ c. HasAll c old.clause) (sym clause) (All-contains_itself old.clause);
+        clause = has;
       };
       noted =
           λ above. subst (λ ms. IsMarked ms (variable lit)) (sym marks)
           (marked_new old.marks.items (variable lit) f.inside);
       stands = λ clauses stands all. record {
-        lower = subst (All (StandsIn clauses)) (sym clause) all.lower;
+        lower = lower clauses stands all.lower;
         marked =
             subst
             (λ ms. All
@@ -342,6 +352,23 @@ notes_open trail old lit new way wrong unmarked same marks clause level unresolv
       };
     }
 
+-- a literal of the present level is noted
+pub notes_open : (trail : Assigned) (old : Walk) (lit : Lit) (new : Walk) → IsUnderWay trail old
+    → IsFalse (take old.at trail.steps) lit → is_marked old.marks.items (variable lit) ≡ false
+    → level_at trail.steps lit ≡ old.level
+    → new.marks.items ≡ set old.marks.items (variable lit) true → new.clause ≡ old.clause
+    → new.level ≡ old.level → new.unresolved ≡ old.unresolved + 1
+    → new.at ≡ old.at → Notes trail old new lit
+notes_open trail old lit new way wrong unmarked same marks clause level unresolved at =
+    notes_marked trail old lit new way wrong unmarked marks at level (omega (arith, unresolved))
+    (progress_same trail (set old.marks.items (variable lit) true) new.marks.items old.clause
+    new.clause old.level new.level (old.unresolved + 1) new.unresolved old.at new.at
+    (sym marks) (sym clause) (sym level) (sym unresolved) (sym at)
+    (progress_open trail old.marks.items old.clause old.level old.unresolved old.at lit way
+    wrong unmarked same))
+    (subst (λ c. HasAll c old.clause) (sym clause) (All-contains_itself old.clause))
+    (λ clauses stands all. subst (All (StandsIn clauses)) (sym clause) all)
+
 -- a literal of a lower level is noted
 pub notes_lower : (trail : Assigned) (old : Walk) (lit : Lit) (new : Walk) → IsUnderWay trail old
     → IsFalse (take old.at trail.steps) lit → is_marked old.marks.items (variable lit) ≡ false
@@ -350,45 +377,18 @@ pub notes_lower : (trail : Assigned) (old : Walk) (lit : Lit) (new : Walk) → I
     → new.clause ≡ old.clause ++ lit ∷ [] → new.level ≡ old.level
     → new.unresolved ≡ old.unresolved → new.at ≡ old.at → Notes trail old new lit
 notes_lower trail old lit new way wrong unmarked differ marks clause level unresolved at =
-    let f =
-    fresh trail old.marks.items old.clause old.level old.unresolved old.at lit way wrong
-    unmarked in
-    record {
-      under_way =
-          progress_same trail (set old.marks.items (variable lit) true) new.marks.items
-          (old.clause ++ lit ∷ []) new.clause old.level new.level old.unresolved new.unresolved
-          old.at new.at
-          (sym marks) (sym clause) (sym level) (sym unresolved) (sym at)
-          (progress_lower trail old.marks.items old.clause old.level old.unresolved old.at lit way
-          wrong unmarked differ);
-      later = record {
-        at = at;
-        level = level;
-        unresolved = omega (arith, unresolved);
-        marks =
-            λ var is. subst (λ ms. IsMarked ms var) (sym marks)
-            (marked_kept old.marks.items (variable lit) var f.inside is);
-        clause =
-            subst (λ c. HasAll c old.clause) (sym clause)
-            (λ k d inside. Contains-append_left old.clause (lit ∷ []) (get_or old.clause k d)
-            (All-contains_itself old.clause k d inside));
-      };
-      noted =
-          λ above. subst (λ ms. IsMarked ms (variable lit)) (sym marks)
-          (marked_new old.marks.items (variable lit) f.inside);
-      stands = λ clauses stands all. record {
-        lower =
-            subst (All (StandsIn clauses)) (sym clause)
-            (All-push (StandsIn clauses) old.clause lit all.lower stands);
-        marked =
-            subst
-            (λ ms. All
-            (λ step. IsMarked ms (variable step.lit) → StandsIn clauses (negation step.lit))
-            trail.steps) (sym marks)
-            (standing_marked clauses trail old.marks.items old.clause old.level old.unresolved
-            old.at lit way wrong unmarked stands all.marked);
-      };
-    }
+    notes_marked trail old lit new way wrong unmarked marks at level (omega (arith, unresolved))
+    (progress_same trail (set old.marks.items (variable lit) true) new.marks.items
+    (old.clause ++ lit ∷ []) new.clause old.level new.level old.unresolved new.unresolved
+    old.at new.at
+    (sym marks) (sym clause) (sym level) (sym unresolved) (sym at)
+    (progress_lower trail old.marks.items old.clause old.level old.unresolved old.at lit way
+    wrong unmarked differ))
+    (subst (λ c. HasAll c old.clause) (sym clause)
+    (λ k d inside. Contains-append_left old.clause (lit ∷ []) (get_or old.clause k d)
+    (All-contains_itself old.clause k d inside)))
+    (λ clauses stands all. subst (All (StandsIn clauses)) (sym clause)
+    (All-push (StandsIn clauses) old.clause lit all stands))
 
 -- ---- the literals of a clause are noted
 
@@ -516,6 +516,20 @@ last_read trail now steps d step same some within read =
           ap (λ n. take n trail.steps) (sym next) ∙ take_there trail.steps (now.at - 1) step there;
     }
 
+-- the open ones before the last, and the last, are as many as were counted
+count_passed : (trail : Assigned) (old now : Walk) (step : Step) (open_one : Bool)
+    → IsSearching trail old now → IsLast trail now step
+    → is_open old.marks.items old.level step ≡ open_one
+    → count_by (is_open old.marks.items old.level) (take (now.at - 1) trail.steps) + one_if open_one
+    ≡ old.unresolved
+count_passed trail old now step open_one searching last is =
+    sym (ap (count_by (is_open old.marks.items old.level)) last.taken
+    ∙ sum_by_push (λ s. one_if (is_open old.marks.items old.level s))
+    (take (now.at - 1) trail.steps) step
+    ∙ ap
+    (λ b. count_by (is_open old.marks.items old.level) (take (now.at - 1) trail.steps)
+    + one_if b) is) ∙ searching.counted
+
 -- one that isn't open is passed
 pub search_passes : (trail : Assigned) (old now new : Walk) (step : Step)
     → IsSearching trail old now → IsLast trail now step
@@ -527,12 +541,7 @@ search_passes trail old now new step searching last closed marks clause level un
     ap₂ (λ ms n. is_open ms n step) (sym searching.marks) (sym searching.level) ∙ closed in
     let count : count_by (is_open old.marks.items old.level) (take (now.at - 1) trail.steps)
     ≡ old.unresolved =
-    sym (ap (count_by (is_open old.marks.items old.level)) last.taken
-    ∙ sum_by_push (λ s. one_if (is_open old.marks.items old.level s))
-    (take (now.at - 1) trail.steps) step
-    ∙ ap
-    (λ b. count_by (is_open old.marks.items old.level) (take (now.at - 1) trail.steps)
-    + one_if b) not_open ∙ add-zero _) ∙ searching.counted in
+    sym (add-zero _) ∙ count_passed trail old now step false searching last not_open in
     record {
       within = omega (arith, searching.within, at);
       marks = marks ∙ searching.marks;
@@ -564,13 +573,7 @@ search_ends trail old now new step way searching some last is_it marks clause le
     ap₂ (λ ms n. is_open ms n step) (sym searching.marks) (sym searching.level) ∙ is_it in
     let parts = open_parts now.marks.items now.level step is_it in
     let count : count_by (is_open old.marks.items old.level) (take (now.at - 1) trail.steps) + 1
-    ≡ old.unresolved =
-    sym (ap (count_by (is_open old.marks.items old.level)) last.taken
-    ∙ sum_by_push (λ s. one_if (is_open old.marks.items old.level s))
-    (take (now.at - 1) trail.steps) step
-    ∙ ap
-    (λ b. count_by (is_open old.marks.items old.level) (take (now.at - 1) trail.steps)
-    + one_if b) is) ∙ searching.counted in
+    ≡ old.unresolved = count_passed trail old now step true searching last is in
     record {
       under_way =
           progress_same trail old.marks.items new.marks.items old.clause new.clause old.level

@@ -41,7 +41,7 @@ pub fn final_core(
     core.push(alloc, failed)?;
     match trail.place_of(failed.var()) {
         None => Ok(()),
-        Some(last) => add_decisions(alloc, store, trail, last, failed, core),
+        Some(last) => add_decisions(alloc, store, trail, failed, last, core),
     }
 }
 
@@ -50,8 +50,8 @@ fn add_decisions(
     alloc: Global,
     store: &Store,
     trail: &Trail,
-    last: usize,
     failed: Lit,
+    last: usize,
     core: &mut Clause,
 ) -> Result<(), NoMemory>
     requires of_store { IsTrailOf trail.now.steps store.now }

@@ -72,14 +72,18 @@ pub record NoName (bytes : List ℕ) (fault : Fault) : Type 0 where
   pub no_entry : (value : ℕ) (name rest : List ℕ) → IsName name → StandsEntry value name bytes rest
       → ⊥
 
--- a token stands where a mark is due, and no mark
-pub record NoMark (letter place : ℕ) (bytes : List ℕ) (fault : Fault) : Type 0 where
+-- the first token that stands here begins with this byte
+pub record TokenBegins (first : ℕ) (bytes rest : List ℕ) : Type 0 where
   pub gap : List ℕ
-  pub first : ℕ
-  pub rest : List ℕ
   pub between : IsGap gap
   pub parts : bytes ≡ gap ++ (first ∷ rest)
   pub begins : is_separator first ≡ false
+
+-- a token stands where a mark is due, and no mark
+pub record NoMark (letter place : ℕ) (bytes : List ℕ) (fault : Fault) : Type 0 where
+  pub first : ℕ
+  pub rest : List ℕ
+  pub token : TokenBegins first bytes rest
   pub no_mark : (after : List ℕ) → StandsMark letter bytes after → ⊥
   pub fault_is : fault ≡ At MissingMark (length (first ∷ rest)) place
 
@@ -99,12 +103,9 @@ pub record BadModels (bytes : List ℕ) (fault : Fault) : Type 0 where
 
 -- a token stands behind the last field
 pub record Trailing (bytes : List ℕ) (fault : Fault) : Type 0 where
-  pub gap : List ℕ
   pub first : ℕ
   pub rest : List ℕ
-  pub between : IsGap gap
-  pub parts : bytes ≡ gap ++ (first ∷ rest)
-  pub begins : is_separator first ≡ false
+  pub token : TokenBegins first bytes rest
   pub fault_is : fault ≡ At TrailingText (length (first ∷ rest)) first
 
 -- the field that is due fails

@@ -177,6 +177,7 @@ others_true steps clause lit is =
     (passes_apart (get_or (others clause lit) k d) lit
     (filter_passes (λ other. not (eqb other.0 lit.0)) clause k d within))))
 
+-- no unit clause is absorbed at a fixpoint
 pub fixpoint_absorbs_no_unit : FixpointAbsorbsNoUnit
 fixpoint_absorbs_no_unit trail clauses clause lit is fixpoint unit absorbed =
     elim

@@ -30,15 +30,12 @@ some_and_none : (steps : List Step) (clause : List Lit) → HasNoneTrue steps cl
 some_and_none steps clause none some =
     none some.0 some.1 some.2 (subst (λ l. value_of steps l ≡ Yes) (sym some.3) some.4)
 
--- a false literal changes nothing
-pub stands_with_false : (steps : List Step) (clause : List Lit) (lit : Lit) (standing : Standing)
-    → HasNoneTrue steps clause → value_of steps lit ≡ No
-    → IsStanding steps clause standing → IsStanding steps (clause ++ lit ∷ []) standing
-stands_with_false steps clause lit Satisfied none is_no is =
-    absurd (some_and_none steps clause none is)
-stands_with_false steps clause lit Open none is_no is =
+-- an open clause stays open with a literal that isn't true
+open_push : (steps : List Step) (clause : List Lit) (lit : Lit) → HasNoneTrue steps clause
+    → value_of steps lit ≢ Yes → IsOpenOn steps clause → IsOpenOn steps (clause ++ lit ∷ [])
+open_push steps clause lit none not_yes is =
     record {
-      none_true = none_true_push steps clause lit none (λ is_yes. cc);
+      none_true = none_true_push steps clause lit none not_yes;
       one = is.one;
       two = is.two;
       differ = is.differ;
@@ -47,6 +44,15 @@ stands_with_false steps clause lit Open none is_no is =
       one_unset = is.one_unset;
       two_unset = is.two_unset;
     }
+
+-- a false literal changes nothing
+pub stands_with_false : (steps : List Step) (clause : List Lit) (lit : Lit) (standing : Standing)
+    → HasNoneTrue steps clause → value_of steps lit ≡ No
+    → IsStanding steps clause standing → IsStanding steps (clause ++ lit ∷ []) standing
+stands_with_false steps clause lit Satisfied none is_no is =
+    absurd (some_and_none steps clause none is)
+stands_with_false steps clause lit Open none is_no is =
+    open_push steps clause lit none (λ is_yes. cc) is
 stands_with_false steps clause lit (UnitLit first) none is_no is =
     record {
       here = Contains-append_left clause (lit ∷ []) first is.here;
@@ -79,16 +85,7 @@ pub stands_with_second : (steps : List Step) (clause : List Lit) (lit : Lit) (st
 stands_with_second steps clause lit Satisfied none unset apart some is =
     absurd (some_and_none steps clause none is)
 stands_with_second steps clause lit Open none unset apart some is =
-    record {
-      none_true = none_true_push steps clause lit none (λ is_yes. cc);
-      one = is.one;
-      two = is.two;
-      differ = is.differ;
-      one_here = Contains-append_left clause (lit ∷ []) is.one is.one_here;
-      two_here = Contains-append_left clause (lit ∷ []) is.two is.two_here;
-      one_unset = is.one_unset;
-      two_unset = is.two_unset;
-    }
+    open_push steps clause lit none (λ is_yes. cc) is
 stands_with_second steps clause lit (UnitLit first) none unset apart some is =
     record {
       none_true = none_true_push steps clause lit none (λ is_yes. cc);

@@ -89,6 +89,7 @@ fixpoint_from_attached steps attached clauses is quiet k d within =
 
 -- ---- ready for propagation
 
+-- what is ready stays so when assignments come last
 pub ready_with_more : ReadyWithMore
 ready_with_more clauses old new watches added ready is of =
     record {
@@ -136,6 +137,7 @@ ready_with_last clauses clause trail old new at ready over last is =
         (λ lits. let watches : Watched =
         record old { clauses = old.clauses ++ entry lits ∷ [] } in watches) same
 
+-- and when a clause is put into the store and attached
 pub ready_with_clause : ReadyWithClause
 ready_with_clause clauses more clause trail old new at ready over last more_is is =
     subst (λ all. IsReady all trail new) (sym more_is)

@@ -1,49 +1,17 @@
 -- Writing fields one after another.
-use Rattle.std.proofs.Common.{◌≡◌, ◌≤◌, ◌<◌, ◌+◌, ℕ, Bool, true, false, List, [], ◌∷◌, ◌++◌, Option}
-use Rattle.std.proofs.Common.{Ok}
+use Rattle.std.proofs.Common.{◌≡◌, ◌≤◌, ◌<◌, ◌+◌, ℕ, Bool, true, false, List, [], ◌∷◌, ◌++◌}
 use Rattle.std.proofs.Common.{length, take, drop, get_or, refl, sym, ◌∙◌, ap, arith, append-nil}
 use Rattle.std.proofs.Common.{append_assoc, decimal, take-suc, take-append-drop, add-one}
 use Rattle.std.proofs.Common.{length-take}
 use Rattle.std.proofs.lemmas.Grind.{flat_map-append}
 use Rattle.std.proofs.Math.Seq.{take-add}
 use Rattle.std.specs.Prelude.{Some, slice_get, ◌-◌}
-use Rattle.byte_edges.specs.Edges.{Writes}
-use Rattle.byte_edges.specs.declared.writing.WriteFault.{WriteFault}
 use Rattle.ground_program.specs.declared.program.Named.{Named}
 use Rattle.report.specs.Text.{field, fields, positions_from, name_of}
 
--- all of these bytes were written
-abbrev pub Wrote : {K : Type 0} (written : K → Option (List ℕ)) (faults : K → ℕ) (old new : K)
-    → List ℕ → Type 0
-Wrote written faults old new bytes =
-    Writes {E = WriteFault} written faults old new bytes (Ok (tt {0}))
-
--- one number more is one field more
-pub fields_more : (numbers : List ℕ) (at number : ℕ) → at < length numbers
-    → number ≡ get_or numbers at 0
-    → fields (take (at + 1) numbers) ≡ fields (take at numbers) ++ field (decimal number)
-fields_more numbers at number inside is =
-    rw (
-      add-one,
-      take-suc numbers at 0 inside,
-      ← is,
-      flat_map-append (λ number. field (decimal number)) (take at numbers) (number ∷ []),
-    )
-    (ap (λ (text : List ℕ). fields (take at numbers) ++ text) (append-nil (field (decimal number))))
-
--- the field of a number stands between those before and those after it
-pub fields_around : (numbers : List ℕ) (at number : ℕ) → at < length numbers
-    → number ≡ get_or numbers at 0
-    → fields numbers ≡ fields (take at numbers) ++ field (decimal number)
-    ++ fields (drop (at + 1) numbers)
-fields_around numbers at number inside is =
-    let whole : take (at + 1) numbers ++ drop (at + 1) numbers ≡ numbers =
-    take-append-drop (at + 1) numbers in
-    ap fields (sym whole)
-    ∙ flat_map-append (λ number. field (decimal number)) (take (at + 1) numbers)
-    (drop (at + 1) numbers)
-    ∙ ap (λ (text : List ℕ). text ++ fields (drop (at + 1) numbers))
-    (fields_more numbers at number inside is)
+-- the field of a number
+abbrev pub number_field : ℕ → List ℕ
+number_field number = field (decimal number)
 
 -- the first field stands apart
 pub fields_first : (word : List ℕ) (number : ℕ) (rest : List ℕ)

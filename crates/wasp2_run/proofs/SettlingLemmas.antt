@@ -1,9 +1,7 @@
 -- The lines of the candidates, one after another.
 use Rattle.std.proofs.Common.{◌≡◌, ◌≤◌, ◌<◌, ◌+◌, ℕ, zero, suc, Bool, List, []}
-use Rattle.std.proofs.Common.{◌∷◌, ◌++◌, Option, Ok, length, sym, ◌∙◌, ap}
+use Rattle.std.proofs.Common.{◌∷◌, ◌++◌, length, sym, ◌∙◌, ap}
 use Rattle.std.proofs.Common.{arith, add-one, append-nil, append_assoc, inl, inr, ◌⊎◌}
-use Rattle.byte_edges.specs.Edges.{Writes}
-use Rattle.byte_edges.specs.declared.writing.WriteFault.{WriteFault}
 use Rattle.ground_program.specs.declared.program.Named.{Named}
 use Rattle.report.specs.OneSet.{settled_line, settled_lines, count_in, one_set_lines}
 use Rattle.report.specs.OneSet.{one_set_report}
@@ -11,12 +9,6 @@ use Rattle.report.specs.Text.{text_of_line, text_of_lines}
 use Rattle.report.specs.declared.lines.Line.{Line}
 use Rattle.report.specs.declared.lines.Line.TheVariants.{Answer, Sizes, Complete}
 use Rattle.report.proofs.TextLemmas.{text_of_lines_push}
-
--- all of these bytes were written
-abbrev pub Wrote : {K : Type 0} (written : K → Option (List ℕ)) (faults : K → ℕ) (old new : K)
-    → List ℕ → Type 0
-Wrote written faults old new bytes =
-    Writes {E = WriteFault} written faults old new bytes (Ok (tt {0}))
 
 -- the text of the lines of so many candidates
 abbrev pub settled_text : List Named → List Bool → ℕ → List ℕ

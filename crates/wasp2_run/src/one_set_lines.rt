@@ -39,7 +39,8 @@ fn write_answer<K: Sink>(names: &Names, set: Set, sink: &mut K) -> Result<Set, W
 fn write_candidates<K: Sink>(names: &Names, set: &[bool], sink: &mut K) -> Result<(), WriteFault>
     requires { length names.now < 2 ^ 31 }
     ensures { let size = count_in names.now set.now in
-        Writes K.written K.faults sink.old sink.new (text_of_lines names.now (settled_lines names.now set.now (length names.now))
+        Writes K.written K.faults sink.old sink.new
+        (text_of_lines names.now (settled_lines names.now set.now (length names.now))
         ++ (text_of_line names.now (Sizes size size) ++ text_of_line names.now Complete)) result }
 {
     write_settled(names, set, sink)?;

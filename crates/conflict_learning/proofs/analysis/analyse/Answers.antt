@@ -3,7 +3,7 @@ use Rattle.std.specs.Prelude.{All}
 use Rattle.clause_store.specs.Clause.{IsOver}
 use Rattle.clause_store.proofs.EntailmentLemmas.{refuted_follows}
 use Rattle.conflict_learning.specs.Analysis.{greatest_level}
-use Rattle.conflict_learning.proofs.AssignedLemmas.{here_at, false_over}
+use Rattle.conflict_learning.proofs.AssignedLemmas.{false_over}
 use Rattle.conflict_learning.proofs.LearnedLemmas as lemma
 use Rattle.conflict_learning.proofs.analysis.analyse.Goals as goal
 
@@ -33,16 +33,8 @@ returns-clause-refuted c =
     rw c.in_ok-clause.ensures.clause
     (lemma.learned_refuted c.args.store.now c.args.trail.now c.lits.result.now c.begin-walk.result
     c.note_all.new.self c.resolve.new.self c.in_ok-asserting.asserting
-    (record {
-      of = c.requires.of_store;
-      here = here_at c.args.store.now c.args.conflict.0 c.lits.result.now c.lits.ensures.lits;
-      wrong =
-          lemma.conflict_false c.args.store.now c.args.trail.now.steps c.args.conflict
-          c.lits.result.now c.requires.conflict c.lits.ensures.lits;
-      begins = c.begin-walk.ensures;
-      notes = c.in_ok-note_all.ensures;
-      resolves = c.in_ok-asserting.ensures;
-    }))
+    (lemma.is_done c.requires.of_store c.requires.conflict c.lits.ensures.lits
+    c.begin-walk.ensures c.in_ok-note_all.ensures c.in_ok-asserting.ensures))
 
 pub returns-clause-follows : goal.returns-clause-follows
 returns-clause-follows c =
@@ -53,16 +45,8 @@ returns-clause-stands c =
     rw c.in_ok-clause.ensures.clause
     (lemma.learned_stands c.args.store.now c.args.trail.now c.lits.result.now c.begin-walk.result
     c.note_all.new.self c.resolve.new.self c.in_ok-asserting.asserting
-    (record {
-      of = c.requires.of_store;
-      here = here_at c.args.store.now c.args.conflict.0 c.lits.result.now c.lits.ensures.lits;
-      wrong =
-          lemma.conflict_false c.args.store.now c.args.trail.now.steps c.args.conflict
-          c.lits.result.now c.requires.conflict c.lits.ensures.lits;
-      begins = c.begin-walk.ensures;
-      notes = c.in_ok-note_all.ensures;
-      resolves = c.in_ok-asserting.ensures;
-    }))
+    (lemma.is_done c.requires.of_store c.requires.conflict c.lits.ensures.lits
+    c.begin-walk.ensures c.in_ok-note_all.ensures c.in_ok-asserting.ensures))
 
 pub returns-clause-is_false : goal.returns-clause-is_false
 returns-clause-is_false c =

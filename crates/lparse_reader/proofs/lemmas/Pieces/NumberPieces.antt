@@ -132,6 +132,24 @@ pub record Digits (so_far : ℕ) (bytes : List ℕ) (value : ℕ) (rest : List �
   pub ends : is_token_end rest ≡ true
   pub small : so_far ≤ 2147483647 → value ≤ 2147483647
 
+-- no digit stands at the end of a token
+no_digits : (so_far : ℕ) (bytes : List ℕ) (value : ℕ) (rest : List ℕ)
+    → done {A = ℕ × List ℕ} (so_far, bytes) ≡ Ok (value, rest) → is_token_end bytes ≡ true
+    → Digits so_far bytes value rest
+no_digits so_far bytes value rest e ended =
+    let same = ok_is (so_far, bytes) (value, rest) e in
+    let rest_is : bytes ≡ rest = ap (λ (p : ℕ × List ℕ). p.1) same in
+    let value_is : so_far ≡ value = ap (λ (p : ℕ × List ℕ). p.0) same in
+    record {
+      token = [];
+      digits = tt;
+      value_is = value_is;
+      parts = rest_is;
+      ends =
+          rw (← rest_is) ended;
+      small = λ h. omega (arith, h, value_is);
+    }
+
 digits_step : (from so_far byte : ℕ) (bytes : List ℕ) (value : ℕ) (rest : List ℕ)
     (separates digit large : Bool)
     → is_separator byte ≡ separates → is_ascii_digit byte ≡ digit
@@ -143,18 +161,7 @@ digits_step : (from so_far byte : ℕ) (bytes : List ℕ) (value : ℕ) (rest : 
 unfolding digits_at
 digits_step from so_far byte bytes value rest true digit large separate is_digit is_large e more =
     let here : done (so_far, byte ∷ bytes) ≡ Ok (value, rest) = rw separate at e in
-    let same = ok_is (so_far, byte ∷ bytes) (value, rest) here in
-    let rest_is : byte ∷ bytes ≡ rest = ap (λ (p : ℕ × List ℕ). p.1) same in
-    let value_is : so_far ≡ value = ap (λ (p : ℕ × List ℕ). p.0) same in
-    record {
-      token = [];
-      digits = tt;
-      value_is = value_is;
-      parts = rest_is;
-      ends =
-          rw (← rest_is) separate;
-      small = λ h. omega (arith, h, value_is);
-    }
+    no_digits so_far (byte ∷ bytes) value rest here separate
 digits_step from so_far byte bytes value rest false false large separate is_digit is_large e more =
     absurd (let wrong = rw (separate, is_digit) at e in cc)
 digits_step from so_far byte bytes value rest false true true separate is_digit is_large e more =
@@ -174,18 +181,7 @@ pub digits_take : (from so_far : ℕ) (bytes : List ℕ) (value : ℕ) (rest : L
     → digits_at from so_far bytes ≡ Ok (value, rest) → Digits so_far bytes value rest
 unfolding digits_at
 digits_take from so_far [] value rest e =
-    let same = ok_is (so_far, []) (value, rest) e in
-    let rest_is : [] ≡ rest = ap (λ (p : ℕ × List ℕ). p.1) same in
-    let value_is : so_far ≡ value = ap (λ (p : ℕ × List ℕ). p.0) same in
-    record {
-      token = [];
-      digits = tt;
-      value_is = value_is;
-      parts = rest_is;
-      ends =
-          rw (← rest_is) refl;
-      small = λ h. omega (arith, h, value_is);
-    }
+    no_digits so_far [] value rest e refl
 digits_take from so_far (byte ∷ bytes) value rest e =
     digits_step from so_far byte bytes value rest (is_separator byte) (is_ascii_digit byte)
     (ltb 2147483647 (10 * so_far + (byte - 48))) refl refl refl e

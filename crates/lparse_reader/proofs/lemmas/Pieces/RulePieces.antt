@@ -261,27 +261,33 @@ many_heads_stand kind bytes rule rest e =
       few_literals = both.few;
     })
 
+-- a kind that has these heads and this bound, and whose weights are ones
+many_good : (kind : Kind) (bytes : List ℕ) (rule : Rule) (rest : List ℕ) → HeadsFit kind rule.heads
+    → BoundFits kind rule.bound rule.body → ((weight : ℕ) → weight ≡ 1 → WeightFits kind weight)
+    → ManyHeads kind bytes rule rest → IsReadRule rule
+many_good kind bytes rule rest heads bound weights many = record {
+  is_rule = record {
+    heads = subst (λ (k : Kind). HeadsFit k rule.heads) (sym many.kind_is) heads;
+    bound = subst (λ (k : Kind). BoundFits k rule.bound rule.body) (sym many.kind_is) bound;
+    bound_number = omega (arith, many.bound, many.few_literals);
+    weights =
+        subst (λ (k : Kind). All (λ part. WeightFits k part.weight) rule.body) (sym many.kind_is)
+        (All-from_recursion (λ part. WeightFits kind part.weight) rule.body
+        (all_ones kind rule.body weights many.ones));
+    order = first_from_ordered rule.body many.ordered;
+    few_heads = many.few_heads;
+    few_literals = many.few_literals;
+  };
+  heads = many.heads;
+  atoms = many.atoms;
+}
+
 choice_stands : (bytes : List ℕ) (rule : Rule) (rest : List ℕ) → ManyHeads Choice bytes rule rest
     → RuleStands Choice bytes rule rest
 choice_stands bytes rule rest many = record {
   kind_is = many.kind_is;
   row = many.row;
-  good = record {
-    is_rule = record {
-      heads = subst (λ (k : Kind). HeadsFit k rule.heads) (sym many.kind_is) tt;
-      bound = subst (λ (k : Kind). BoundFits k rule.bound rule.body) (sym many.kind_is) many.bound;
-      bound_number = omega (arith, many.bound, many.few_literals);
-      weights =
-          subst (λ (k : Kind). All (λ part. WeightFits k part.weight) rule.body) (sym many.kind_is)
-          (All-from_recursion (λ part. WeightFits Choice part.weight) rule.body
-          (all_ones Choice rule.body (λ weight one. one) many.ones));
-      order = first_from_ordered rule.body many.ordered;
-      few_heads = many.few_heads;
-      few_literals = many.few_literals;
-    };
-    heads = many.heads;
-    atoms = many.atoms;
-  };
+  good = many_good Choice bytes rule rest tt many.bound (λ weight one. one) many;
 }
 
 disjunctive_stands : (bytes : List ℕ) (rule : Rule) (rest : List ℕ)
@@ -289,22 +295,7 @@ disjunctive_stands : (bytes : List ℕ) (rule : Rule) (rest : List ℕ)
 disjunctive_stands bytes rule rest many = record {
   kind_is = many.kind_is;
   row = many.row;
-  good = record {
-    is_rule = record {
-      heads = subst (λ (k : Kind). HeadsFit k rule.heads) (sym many.kind_is) tt;
-      bound = subst (λ (k : Kind). BoundFits k rule.bound rule.body) (sym many.kind_is) many.bound;
-      bound_number = omega (arith, many.bound, many.few_literals);
-      weights =
-          subst (λ (k : Kind). All (λ part. WeightFits k part.weight) rule.body) (sym many.kind_is)
-          (All-from_recursion (λ part. WeightFits Disjunctive part.weight) rule.body
-          (all_ones Disjunctive rule.body (λ weight one. one) many.ones));
-      order = first_from_ordered rule.body many.ordered;
-      few_heads = many.few_heads;
-      few_literals = many.few_literals;
-    };
-    heads = many.heads;
-    atoms = many.atoms;
-  };
+  good = many_good Disjunctive bytes rule rest tt many.bound (λ weight one. one) many;
 }
 
 -- ---- weight rules

@@ -42,6 +42,21 @@ pub record BadDigits (from so_far : ℕ) (bytes : List ℕ) (fault : Fault) : Ty
   pub goes_on : is_separator byte ≡ false
   pub wrong : IsWrong from (value_of so_far digits) byte fault
 
+-- no digit stands before the byte that is wrong
+bad_here : (from so_far byte : ℕ) (bytes : List ℕ) (fault : Fault) → so_far ≤ 2147483647
+    → is_separator byte ≡ false → IsWrong from so_far byte fault
+    → BadDigits from so_far (byte ∷ bytes) fault
+bad_here from so_far byte bytes fault small separate wrong = record {
+  digits = [];
+  byte = byte;
+  rest = bytes;
+  digits_only = tt;
+  small = small;
+  parts = refl;
+  goes_on = separate;
+  wrong = wrong;
+}
+
 bad_step : (from so_far byte : ℕ) (bytes : List ℕ) (fault : Fault) (separates digit large : Bool)
     → so_far ≤ 2147483647
     → is_separator byte ≡ separates → is_ascii_digit byte ≡ digit
@@ -57,35 +72,18 @@ bad_step from so_far byte bytes fault true digit large small separate is_digit i
 bad_step from so_far byte bytes fault false false large small separate is_digit is_large e more =
     let here : fault_of {A = ℕ × List ℕ} (At NotANumber from byte) ≡ Err fault =
     rw (separate, is_digit) at e in
-    record {
-      digits = [];
-      byte = byte;
-      rest = bytes;
-      digits_only = tt;
-      small = small;
-      parts = refl;
-      goes_on = separate;
-      wrong = inl (is_digit, sym (fault_is {A = ℕ × List ℕ} (At NotANumber from byte) fault here));
-    }
+    bad_here from so_far byte bytes fault small separate
+    (inl (is_digit, sym (fault_is {A = ℕ × List ℕ} (At NotANumber from byte) fault here)))
 bad_step from so_far byte bytes fault false true true small separate is_digit is_large e more =
     let here : fault_of {A = ℕ × List ℕ} (At NumberTooLarge from (10 * so_far + (byte - 48)))
     ≡ Err fault = rw (separate, is_digit, is_large) at e in
-    record {
-      digits = [];
-      byte = byte;
-      rest = bytes;
-      digits_only = tt;
-      small = small;
-      parts = refl;
-      goes_on = separate;
-      wrong =
-          inr (
-            is_digit,
-            ltb-true _ _ is_large,
-            sym (fault_is {A = ℕ × List ℕ} (At NumberTooLarge from (10 * so_far + (byte - 48)))
-                fault here),
-          );
-    }
+    bad_here from so_far byte bytes fault small separate
+    (inr (
+      is_digit,
+      ltb-true _ _ is_large,
+      sym (fault_is {A = ℕ × List ℕ} (At NumberTooLarge from (10 * so_far + (byte - 48)))
+          fault here),
+    ))
 bad_step from so_far byte bytes fault false true false small separate is_digit is_large e more =
     let read = more (ltb-false _ _ is_large) (rw (separate, is_digit, is_large) at e) in
     record {

@@ -123,7 +123,8 @@ sign_fails : (letter place : ℕ) (bytes : List ℕ) (fault : Fault)
 sign_fails letter place bytes fault (inl none) = mark_nothing letter place bytes fault none
 sign_fails letter place bytes fault (inr other) =
     mark_fault_again letter place other.first other.rest bytes fault
-    (token_is bytes other.gap other.first other.rest other.between other.parts other.begins)
+    (token_is bytes other.token.gap other.first other.rest other.token.between other.token.parts
+    other.token.begins)
     other.fault_is other.no_mark
 
 no_external : (bytes : List ℕ) (test : Bool) → is_external (skipped bytes) ≡ test
@@ -339,22 +340,13 @@ abbrev pub Outcome : List Due → List ℕ → Option Fault → Type 0
 Outcome agenda bytes None = (agenda ≡ []) × IsGap bytes
 Outcome agenda bytes (Some fault) = FailsNext agenda bytes fault
 
--- some fields that are due stand, and then comes this outcome
-pub record Ends (agenda : List Due) (bytes : List ℕ) (outcome : Option Fault) : Type 0 where
-  pub items : List Item
-  pub middle : List ℕ
-  pub left : List Due
-  pub row : PieceRow items bytes middle
-  pub good : AllByRecursion IsItem items
-  pub ran : run agenda items ≡ Some left
-  pub so : Outcome left middle outcome
-
 trailing_again : (bytes : List ℕ) (fault : Fault) → Trailing bytes fault → end_at bytes ≡ Err fault
 unfolding end_at
 trailing_again bytes fault trailing =
     ap end_here
-    (token_is bytes trailing.gap trailing.first trailing.rest trailing.between trailing.parts
-    trailing.begins) ∙ ap (λ (f : Fault). fault_of {A = List ℕ} f) (sym trailing.fault_is)
+    (token_is bytes trailing.token.gap trailing.first trailing.rest trailing.token.between
+    trailing.token.parts trailing.token.begins)
+    ∙ ap (λ (f : Fault). fault_of {A = List ℕ} f) (sym trailing.fault_is)
 
 same_fault : {A : Type 0} (f g : Fault) (read : Result A Fault) → read ≡ Err f → read ≡ Err g
     → f ≡ g

@@ -16,6 +16,7 @@ use Rattle.lparse_reader.specs.Fields.{end_here, end_at}
 use Rattle.lparse_reader.specs.Reading.{rule_or_end_at, all_at, program_at}
 use Rattle.lparse_reader.specs.Pieces.{number, entry, mark, IsGap, rule_items}
 use Rattle.lparse_reader.specs.Due.{Due, rules, entries, sign, atoms, models, whole}
+use Rattle.lparse_reader.specs.Refuses.{TokenBegins}
 use Rattle.lparse_reader.specs.Refuses.{NoToken, External, Trailing, FailsAt, Breaks}
 use Rattle.lparse_reader.proofs.lemmas.Pieces.NumberPieces.{bind_ok, chosen, both, skipped_gap}
 use Rattle.lparse_reader.proofs.lemmas.Pieces.NumberPieces.{skipped_token}
@@ -59,6 +60,18 @@ mark_fault letter place first rest fault e =
           (fault_is {A = List ℕ} (At MissingMark (length (first ∷ rest)) place) fault right.1)
     ]
 
+-- what stands behind the gap is the first token
+token_skipped_to : (bytes : List ℕ) (first : ℕ) (rest : List ℕ) → skipped bytes ≡ first ∷ rest
+    → TokenBegins first bytes rest
+token_skipped_to bytes first rest here_is =
+    let gone = skips bytes in
+    record {
+      gap = gone.gap;
+      between = gone.between;
+      parts = gone.parts ∙ ap (λ (r : List ℕ). gone.gap ++ r) here_is;
+      begins = token_begins bytes first rest here_is;
+    }
+
 mark_fails_here : (letter place : ℕ) (bytes here : List ℕ) (fault : Fault) → skipped bytes ≡ here
     → mark_here letter place here ≡ Err fault → mark_at letter place bytes ≡ Err fault
     → FailsAt (sign letter place) bytes fault
@@ -66,14 +79,10 @@ mark_fails_here letter place bytes [] fault here_is e fails =
     inl (record
     { blank = no_token bytes here_is; fault_is = sym (fault_is {A = List ℕ} Ended fault e) })
 mark_fails_here letter place bytes (first ∷ rest) fault here_is e fails =
-    let gone = skips bytes in
     inr (record {
-      gap = gone.gap;
       first = first;
       rest = rest;
-      between = gone.between;
-      parts = gone.parts ∙ ap (λ (r : List ℕ). gone.gap ++ r) here_is;
-      begins = token_begins bytes first rest here_is;
+      token = token_skipped_to bytes first rest here_is;
       no_mark = λ after stands. let wrong =
           sym (mark_again letter place bytes after (eqb_same letter) stands) ∙ fails in cc;
       fault_is = mark_fault letter place first rest fault e;
@@ -156,14 +165,10 @@ end_fails_here : (bytes here : List ℕ) (fault : Fault) → skipped bytes ≡ h
     → end_here here ≡ Err fault → Trailing bytes fault
 end_fails_here bytes [] fault here_is e = absurd cc
 end_fails_here bytes (first ∷ rest) fault here_is e =
-    let gone = skips bytes in
     record {
-      gap = gone.gap;
       first = first;
       rest = rest;
-      between = gone.between;
-      parts = gone.parts ∙ ap (λ (r : List ℕ). gone.gap ++ r) here_is;
-      begins = token_begins bytes first rest here_is;
+      token = token_skipped_to bytes first rest here_is;
       fault_is =
           sym (fault_is {A = List ℕ} (At TrailingText (length (first ∷ rest)) first) fault e);
     }

@@ -1,15 +1,15 @@
--- Writing the items of a list in turn, each as its own text.
-use Rattle.std.proofs.Common.{◌≡◌, ℕ, false, ◌+◌, ◌≤◌, ◌<◌, List, [], ◌∷◌, ◌++◌, length, take, drop}
-use Rattle.std.proofs.Common.{get_or, Option, Result, Ok, Err, refl, sym, ap, ◌∙◌}
+-- Writing fields, and lines up to what ends them.
+use Rattle.std.proofs.Common.{◌≡◌, ℕ, false, ◌≤◌, ◌<◌, List, [], ◌∷◌, ◌++◌, length, take}
+use Rattle.std.proofs.Common.{get_or, Option, Result, Ok, Err, refl, sym}
 use Rattle.std.specs.Prelude.{IsErr}
 use Rattle.std.specs.List.{flat_map}
-use Rattle.std.proofs.lemmas.List.{take_more, take_all, take-append-drop, append-nil}
+use Rattle.std.proofs.lemmas.List.{append-nil}
 use Rattle.std.proofs.lemmas.List.Concat.{flat_map-append}
 use Rattle.std.proofs.lemmas.List.Folds.{flat_map-map}
 use Rattle.ground_program.specs.declared.program.Weighted.{Weighted}
 use Rattle.byte_edges.specs.Edges.{Writes}
-use Rattle.byte_edges.proofs.CallerLemmas.{writes_none, writes_then, writes_longer, writes_fault}
-use Rattle.byte_edges.proofs.CallerLemmas.{writes_ok, writes_same}
+use Rattle.byte_edges.proofs.CallerLemmas.{writes_then, writes_longer, writes_fault, writes_same}
+use Rattle.byte_edges.proofs.CallerLemmas.{Wrote, wrote_fault, wrote_all}
 use Rattle.lparse_reader.specs.Pieces.{body_atoms, negatives, body_weights}
 use Rattle.lparse_reader.specs.Text.{next_field, next_fields}
 
@@ -28,68 +28,17 @@ counts body = length body ∷ negatives body ∷ []
 abbrev pub no_part : Weighted
 no_part = record { lit = record { atom = 0; negated = false }; weight = 0 }
 
+-- the texts of the literals, one after the other, are the fields of their atoms
 pub fields_of_literals : (body : List Weighted)
     → flat_map literal_field body ≡ next_fields (body_atoms body)
 fields_of_literals body = sym (flat_map-map next_field (λ (part : Weighted). part.lit.atom) body)
 
+-- and those of their weights
 pub fields_of_weights : (body : List Weighted)
     → flat_map weight_field body ≡ next_fields (body_weights body)
 fields_of_weights body = sym (flat_map-map next_field (λ (part : Weighted). part.weight) body)
 
-module _ {X : Type 0} (f : X → List ℕ) (items : List X) (at : ℕ) (item : X)
-    (within : at < length items) (is : item ≡ get_or items at item) where
-  flat_map-more : flat_map f (take at items) ++ f item ≡ flat_map f (take (at + 1) items)
-  flat_map-more =
-      sym (ap (flat_map f) (take_more items at item within)
-      ∙ flat_map-append f (take at items) (get_or items at item ∷ [])
-      ∙ ap (λ last. flat_map f (take at items) ++ last)
-      (append-nil (f (get_or items at item)) ∙ ap f (sym is)))
-
-  flat_map-rest : (flat_map f (take at items) ++ f item) ++ flat_map f (drop (at + 1) items)
-      ≡ flat_map f items
-  flat_map-rest =
-      ap (λ front. front ++ flat_map f (drop (at + 1) items)) flat_map-more
-      ∙ sym (flat_map-append f (take (at + 1) items) (drop (at + 1) items))
-      ∙ ap (flat_map f) (take-append-drop (at + 1) items)
-
-module _ {K : Type 0} (written : K → Option (List ℕ)) (faults : K → ℕ) where
-  -- bytes were written
-  abbrev pub Wrote : K → K → List ℕ → Type 0
-  Wrote old new bytes = Writes {T = Unit {0}} {E = Unit {0}} written faults old new bytes (Ok tt)
-
 module _ {K : Type 0} {written : K → Option (List ℕ)} {faults : K → ℕ} where
-  pub wrote_none : (sink : K) → Wrote written faults sink sink []
-  wrote_none sink = writes_none sink
-
-  -- one more item of a list was written
-  pub wrote_more : {X T E : Type 0} {old mid new : K} {value : T} (f : X → List ℕ) (items : List X)
-      (at : ℕ) (item : X) → at < length items → item ≡ get_or items at item
-      → Wrote written faults old mid (flat_map f (take at items))
-      → Writes {E = E} written faults mid new (f item) (Ok value)
-      → Wrote written faults old new (flat_map f (take (at + 1) items))
-  wrote_more f items at item within is before one =
-      writes_same (flat_map-more f items at item within is) (writes_then before (writes_ok one))
-
-  -- an item of a list wasn't written whole
-  pub wrote_fault : {X T U E F : Type 0} {old mid new : K} {error : E} {result : Result U F}
-      (f : X → List ℕ) (items : List X) (at : ℕ) (item : X) → IsErr result → at < length items
-      → item ≡ get_or items at item
-      → Wrote written faults old mid (flat_map f (take at items))
-      → Writes {T = T} written faults mid new (f item) (Err error)
-      → Writes written faults old new (flat_map f items) result
-  wrote_fault f items at item fails within is before one =
-      writes_fault fails
-      (writes_same (flat_map-rest f items at item within is)
-      (writes_longer (flat_map f (drop (at + 1) items)) (writes_then before one)))
-
-  -- all items of a list were written
-  pub wrote_all : {X T E : Type 0} {old new : K} {value : T} (f : X → List ℕ) (items : List X)
-      (at : ℕ) → length items ≤ at
-      → Wrote written faults old new (flat_map f (take at items))
-      → Writes {E = E} written faults old new (flat_map f items) (Ok value)
-  wrote_all f items at whole done =
-      writes_same (ap (flat_map f) (take_all at items whole)) (writes_ok done)
-
   -- all items were written, and then what ends them
   pub lines_then : {X T E : Type 0} {old mid new : K} {ended : List ℕ} {result : Result T E}
       (f : X → List ℕ) (items : List X) (at : ℕ) → length items ≤ at
@@ -109,7 +58,7 @@ module _ {K : Type 0} {written : K → Option (List ℕ)} {faults : K → ℕ} w
   lines_cut {U = U} {old = old} {new = new} {error = error} f items at item ended fails within is
       before one =
       let failed : Writes {T = U} written faults old new (flat_map f items) (Err error) =
-      wrote_fault f items at item refl within is before one in
+      wrote_fault f items item at item refl within is before one in
       writes_fault fails (writes_longer ended failed)
 
   -- the last field was written

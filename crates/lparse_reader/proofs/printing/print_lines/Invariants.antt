@@ -1,6 +1,6 @@
 use Rattle.std.proofs.Common.{take}
 use Rattle.std.specs.List.{flat_map}
-use Rattle.lparse_reader.proofs.lemmas.Writing.TextWrites.{Wrote}
+use Rattle.byte_edges.proofs.CallerLemmas.{Wrote}
 use Rattle.lparse_reader.proofs.printing.print_lines.Given as goal
 
 abbrev pub invariant-loop-item : goal.invariant-loop-item

@@ -1,6 +1,7 @@
 use Rattle.std.proofs.Common.{take}
 use Rattle.std.specs.List.{flat_map}
-use Rattle.lparse_reader.proofs.lemmas.Writing.TextWrites.{Wrote, literal_field}
+use Rattle.byte_edges.proofs.CallerLemmas.{Wrote}
+use Rattle.lparse_reader.proofs.lemmas.Writing.TextWrites.{literal_field}
 use Rattle.lparse_reader.proofs.printing.print_literals.Given as goal
 
 abbrev pub invariant-loop-part : goal.invariant-loop-part

@@ -1,7 +1,7 @@
 use Rattle.std.proofs.Common.{take}
 use Rattle.std.specs.List.{flat_map}
 use Rattle.lparse_reader.specs.Text.{next_field}
-use Rattle.lparse_reader.proofs.lemmas.Writing.TextWrites.{Wrote}
+use Rattle.byte_edges.proofs.CallerLemmas.{Wrote}
 use Rattle.lparse_reader.proofs.printing.print_numbers.Given as goal
 
 abbrev pub invariant-loop-number : goal.invariant-loop-number

@@ -1,28 +1,24 @@
-use Rattle.std.proofs.Common.{get_or}
-use Rattle.std.proofs.lemmas.List.{get_or_default}
-use Rattle.byte_edges.proofs.CallerLemmas.{writes_same}
-use Rattle.lparse_reader.proofs.lemmas.Writing.TextWrites.{wrote_more, wrote_fault, wrote_all}
-use Rattle.lparse_reader.proofs.lemmas.Writing.TextWrites.{weight_field}
-use Rattle.lparse_reader.proofs.lemmas.Writing.TextWrites.{fields_of_weights, no_part}
+use Rattle.std.proofs.Common.{get_or, refl}
+use Rattle.byte_edges.proofs.CallerLemmas.{writes_same, wrote_more, wrote_fault, wrote_all}
+use Rattle.lparse_reader.proofs.lemmas.Writing.TextWrites.{weight_field, fields_of_weights, no_part}
 use Rattle.lparse_reader.proofs.printing.print_weights.Goals as goal
 
 pub returns-in_err-print_number : goal.returns-in_err-print_number
 returns-in_err-print_number g c =
-    let body = c.args.body.now in
+    let weights = c.args.body.now in
     let at = c.loop-part.part-index in
-    writes_same (fields_of_weights body)
-    (wrote_fault weight_field body at (get_or body at no_part) c.from_residual.ensures.0
-    c.loop-part-test.true
-    (get_or_default body at no_part _ c.loop-part-test.true) c.loop-part.invariant
-    c.in_err-print_number.ensures)
+    writes_same (fields_of_weights weights)
+    (wrote_fault weight_field weights no_part at (get_or weights at no_part)
+    c.from_residual.ensures.0
+    c.loop-part-test.true refl c.loop-part.invariant c.in_err-print_number.ensures)
 
 pub loop-part-preserved : goal.loop-part-preserved
 loop-part-preserved g c =
-    let body = c.args.body.now in
+    let weights = c.args.body.now in
     let at = c.loop-part.part-index in
-    wrote_more weight_field body at (get_or body at no_part) c.loop-part-test.true
-    (get_or_default body at no_part _ c.loop-part-test.true) c.loop-part.invariant
-    c.in_ok-print_number.ensures
+    wrote_more weight_field weights no_part at (get_or weights at no_part) c.loop-part-test.true
+    refl
+    c.loop-part.invariant c.in_ok-print_number.ensures
 
 pub returns : goal.returns
 returns g c =

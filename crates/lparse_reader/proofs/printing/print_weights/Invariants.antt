@@ -1,6 +1,7 @@
 use Rattle.std.proofs.Common.{take}
 use Rattle.std.specs.List.{flat_map}
-use Rattle.lparse_reader.proofs.lemmas.Writing.TextWrites.{Wrote, weight_field}
+use Rattle.byte_edges.proofs.CallerLemmas.{Wrote}
+use Rattle.lparse_reader.proofs.lemmas.Writing.TextWrites.{weight_field}
 use Rattle.lparse_reader.proofs.printing.print_weights.Given as goal
 
 abbrev pub invariant-loop-part : goal.invariant-loop-part

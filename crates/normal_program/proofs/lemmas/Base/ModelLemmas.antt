@@ -83,10 +83,13 @@ module _ (normal : Normal) (in_range : IsInRange normal) (values : List Bool)
       ++ map (support_clause normal) (atoms_of_normal normal) ++ compute_clauses normal)
       meets
 
-  hold_body : (clause : List Lit) →
-      Contains (flat_map (body_clauses normal) (numbered_bodies normal)) clause
+  -- so do the clauses of the bodies and of the rules
+  hold_front : (clause : List Lit)
+      → Contains
+      (flat_map (body_clauses normal) (numbered_bodies normal)
+      ++ flat_map (rule_clauses normal) normal.rules) clause
       → HoldsIn values clause
-  hold_body clause here = hold clause
+  hold_front clause here = hold clause
       (Contains-append_left
       (flat_map (body_clauses normal) (numbered_bodies normal)
       ++ flat_map (rule_clauses normal) normal.rules
@@ -95,24 +98,20 @@ module _ (normal : Normal) (in_range : IsInRange normal) (values : List Bool)
       (Contains-append_left
       (flat_map (body_clauses normal) (numbered_bodies normal)
       ++ flat_map (rule_clauses normal) normal.rules)
-      (map (support_clause normal) (atoms_of_normal normal)) clause
+      (map (support_clause normal) (atoms_of_normal normal)) clause here))
+
+  hold_body : (clause : List Lit)
+      → Contains (flat_map (body_clauses normal) (numbered_bodies normal)) clause
+      → HoldsIn values clause
+  hold_body clause here = hold_front clause
       (Contains-append_left (flat_map (body_clauses normal) (numbered_bodies normal))
-      (flat_map (rule_clauses normal) normal.rules) clause here)))
+      (flat_map (rule_clauses normal) normal.rules) clause here)
 
   hold_rule : (clause : List Lit) → Contains (flat_map (rule_clauses normal) normal.rules) clause
       → HoldsIn values clause
-  hold_rule clause here = hold clause
-      (Contains-append_left
-      (flat_map (body_clauses normal) (numbered_bodies normal)
-      ++ flat_map (rule_clauses normal) normal.rules
-      ++ map (support_clause normal) (atoms_of_normal normal)) (compute_clauses normal)
-      clause
-      (Contains-append_left
-      (flat_map (body_clauses normal) (numbered_bodies normal)
-      ++ flat_map (rule_clauses normal) normal.rules)
-      (map (support_clause normal) (atoms_of_normal normal)) clause
+  hold_rule clause here = hold_front clause
       (Contains-append_right (flat_map (body_clauses normal) (numbered_bodies normal))
-      (flat_map (rule_clauses normal) normal.rules) clause here)))
+      (flat_map (rule_clauses normal) normal.rules) clause here)
 
   hold_compute : (clause : List Lit) → Contains (compute_clauses normal) clause
       → HoldsIn values clause

@@ -44,6 +44,7 @@ module _ (vars : ℕ) where
       All-contains (IsOver vars) clause (get_or (each_once clause) k d) over
       (once_from clause (get_or (each_once clause) k d) (Contains-get_or (each_once clause) k d h))
 
+  -- merging literals and dropping tautologies adds no variable
   pub cleaned_over : (clauses : List (List Lit)) → AreOver vars clauses
       → AreOver vars (cleaned clauses)
   cleaned_over clauses over =
@@ -65,6 +66,7 @@ module _ (vars : ℕ) where
     last = omega (arith, last, variable-positive var);
   }
 
+  -- so is the negative one
   pub negative_over : (var : ℕ) → 1 ≤ var → var ≤ vars → IsOver vars (negative var)
   negative_over var first last = record {
     first = omega (arith, first, variable-negative var);
@@ -92,12 +94,15 @@ module _ (normal : Normal) (in_range : IsInRange normal) where
   abbrev pub vars : ℕ
   vars = greatest_body_var normal
 
+  -- an atom is over the variables
   pub atom_over : (atom : ℕ) → IsAtomOf normal atom → IsOver vars (positive atom)
   atom_over atom is = positive_over vars atom is.first (omega (arith, is.last))
 
+  -- so is its negation
   pub denied_over : (atom : ℕ) → IsAtomOf normal atom → IsOver vars (negative atom)
   denied_over atom is = negative_over vars atom is.first (omega (arith, is.last))
 
+  -- and the literal of a part of a body
   pub part_over : (part : Part) → IsAtomOf normal part.lit.atom → IsOver vars (literal_of part.lit)
   part_over part is = record {
     first = omega (arith, is.first, variable-literal_of part.lit);
@@ -183,6 +188,7 @@ module _ (normal : Normal) (in_range : IsInRange normal) where
       body_clauses_over item
       (numbered_at normal.bodies item (Contains-get_or (numbered_bodies normal) k d h)))
 
+  -- the clauses of the rules are over atoms and bodies
   pub rules_over : AreOver vars (flat_map (rule_clauses normal) normal.rules)
   rules_over =
       all_flat (All (IsOver vars)) (rule_clauses normal) normal.rules

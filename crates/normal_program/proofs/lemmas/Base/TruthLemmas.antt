@@ -27,9 +27,11 @@ no_half var = omega arith
 pub variable-positive : (var : ℕ) → variable (positive var) ≡ var
 variable-positive var = omega arith
 
+-- the variable of a denied variable
 pub variable-negative : (var : ℕ) → variable (negative var) ≡ var
 variable-negative var = omega arith
 
+-- the variable of a literal of an atom is the atom
 pub variable-literal_of : (lit : AtomLit) → variable (literal_of lit) ≡ lit.atom
 variable-literal_of lit = by lit.negated
   where
@@ -46,6 +48,7 @@ module _ (values : List Bool) where
       ap (λ b. if b then not (truth values ((2 * var) / 2)) else truth values ((2 * var) / 2)) even
       ∙ ap (truth values) (yes_half var)
 
+  -- a denied variable is true where the variable is false
   pub makes_true-negative : (var : ℕ) → makes_true values (negative var) ≡ not (truth values var)
   makes_true-negative var =
       let odd : eqb ((2 * var + 1) % 2) 1 ≡ true = eq-eqb ((2 * var + 1) % 2) 1 (no_odd var) in
@@ -84,10 +87,12 @@ module _ (values : List Bool) where
       → makes_true values lit ≡ true → HoldsIn values clause
   HoldsIn-by clause lit here true_one = any_from (IsTrueIn values) clause lit here true_one
 
+  -- a clause holds by its first literal
   pub HoldsIn-here : (lit : Lit) (rest : List Lit) → makes_true values lit ≡ true
       → HoldsIn values (lit ∷ rest)
   HoldsIn-here lit rest true_one = (0, lit, omega arith, refl, true_one)
 
+  -- or by one behind it
   pub HoldsIn-there : (lit : Lit) (rest : List Lit) → HoldsIn values rest
       → HoldsIn values (lit ∷ rest)
   HoldsIn-there lit rest some = (suc some.0, some.1, omega (arith, some.2), some.3, some.4)

@@ -1,6 +1,4 @@
-use Rattle.std.proofs.Common.{◌++◌, ◌∷◌, [], List, ℕ, codes, sym, ap}
-use Rattle.report.specs.Text.{field, fields}
-use Rattle.byte_edges.proofs.CallerLemmas.{writes_then, writes_longer, writes_fault, writes_same}
+use Rattle.byte_edges.proofs.CallerLemmas.{writes_then, writes_longer, writes_fault}
 use Rattle.report.proofs.writing.write_cause.Goals as goal
 
 pub returns-in_err-write_fields : goal.returns-in_err-write_fields
@@ -9,8 +7,4 @@ returns-in_err-write_fields g c =
 
 pub returns : goal.returns
 returns g c =
-    writes_same
-    (sym
-    (ap (λ (text : List ℕ). codes "REFUSED" ++ fields (c.args.line ∷ []) ++ field text)
-    (sym c.text_of.ensures)))
-    (writes_then c.in_ok-write_fields.ensures c.write_field.ensures)
+    writes_then c.in_ok-write_fields.ensures (rw c.text_of.ensures at c.write_field.ensures)

@@ -1,6 +1,4 @@
-use Rattle.std.proofs.Common.{◌++◌, ◌∷◌, [], List, ℕ, sym, ap}
-use Rattle.report.specs.Text.{field, fields}
-use Rattle.byte_edges.proofs.CallerLemmas.{writes_then, writes_longer, writes_fault, writes_same}
+use Rattle.byte_edges.proofs.CallerLemmas.{writes_then, writes_longer, writes_fault}
 use Rattle.report.proofs.WritingLemmas.{name_at}
 use Rattle.report.proofs.writing.write_named.Goals as goal
 
@@ -10,10 +8,7 @@ returns-in_err-write_fields g c =
 
 pub returns : goal.returns
 returns g c =
-    writes_same
-    (sym
-    (ap (λ (name : List ℕ). c.args.word.now ++ fields (c.args.cand ∷ c.args.number ∷ [])
-    ++ field name)
-    (name_at c.args.names.now c.args.cand c.get-named.result.now c.as_slice.result.now
-    c.get-named.ensures c.as_slice.ensures)))
-    (writes_then c.in_ok-write_fields.ensures c.write_field.ensures)
+    let name =
+    name_at c.args.names.now c.args.cand c.get-named.result.now c.as_slice.result.now
+    c.get-named.ensures c.as_slice.ensures in
+    writes_then c.in_ok-write_fields.ensures (rw (← name) at c.write_field.ensures)

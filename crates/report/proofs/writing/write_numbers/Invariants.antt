@@ -1,6 +1,6 @@
 use Rattle.std.proofs.Common.{take}
+use Rattle.byte_edges.proofs.CallerLemmas.{Wrote}
 use Rattle.report.specs.Text.{fields}
-use Rattle.report.proofs.WritingLemmas.{Wrote}
 use Rattle.report.proofs.writing.write_numbers.Given as goal
 
 abbrev pub invariant-loop-number : goal.invariant-loop-number

@@ -1,6 +1,6 @@
 use Rattle.std.proofs.Common.{◌≤◌, ◌-◌, length, take}
+use Rattle.byte_edges.proofs.CallerLemmas.{Wrote}
 use Rattle.report.specs.Text.{fields, positions_from}
-use Rattle.report.proofs.WritingLemmas.{Wrote}
 use Rattle.report.proofs.writing.write_positions.Given as goal
 
 abbrev pub invariant-loop-at : goal.invariant-loop-at

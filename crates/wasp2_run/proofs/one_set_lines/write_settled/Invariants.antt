@@ -1,4 +1,5 @@
-use Rattle.wasp2_run.proofs.SettlingLemmas.{Wrote, settled_text}
+use Rattle.byte_edges.proofs.CallerLemmas.{Wrote}
+use Rattle.wasp2_run.proofs.SettlingLemmas.{settled_text}
 use Rattle.wasp2_run.proofs.one_set_lines.write_settled.Given as goal
 
 abbrev pub invariant-loop-at : goal.invariant-loop-at

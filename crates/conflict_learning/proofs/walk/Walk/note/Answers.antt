@@ -21,10 +21,8 @@ pub index_mut-requires : goal.index_mut-requires
 index_mut-requires c =
     omega (
       arith,
-      (lemma.note_over c.args.trail.now c.args.self.now c.args.lit c.requires.under_way
-          c.requires.is_false).last,
-      c.requires.under_way.sized,
-      c.var-place.ensures,
+      lemma.note_within c.args.trail.now c.args.self.now c.args.lit _ c.requires.under_way
+          c.requires.is_false c.var-place.ensures,
     )
 
 pub overflow_add-self : goal.overflow_add-self
@@ -49,10 +47,8 @@ pub index_mut-requires-2 : goal.index_mut-requires-2
 index_mut-requires-2 c =
     omega (
       arith,
-      (lemma.note_over c.args.trail.now c.args.self.now c.args.lit c.requires.under_way
-          c.requires.is_false).last,
-      c.requires.under_way.sized,
-      c.var-place.ensures,
+      lemma.note_within c.args.trail.now c.args.self.now c.args.lit _ c.requires.under_way
+          c.requires.is_false c.var-place.ensures,
     )
 
 pub returns : goal.returns
