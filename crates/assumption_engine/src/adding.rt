@@ -6,7 +6,8 @@ ghost use Rattle.assumption_engine.specs.Engine.{IsModelOf, IsRight};
 
 use crate::engine::Engine;
 use crate::theory::Theory;
-use clause_store::{Lit, NoMemory};
+use clause_store::Lit;
+use item_list::NoMemory;
 use std::alloc::Global;
 
 impl<T: Theory> Engine<T> {

@@ -11,7 +11,8 @@ use crate::answer::{Answer, Turn};
 use crate::engine::Engine;
 use crate::state::know_trail;
 use crate::theory::Theory;
-use clause_store::{Budget, Lit, NoMemory, Says};
+use clause_store::{Budget, Lit, Says};
+use item_list::NoMemory;
 use std::alloc::Global;
 
 impl<T: Theory> Engine<T> {

@@ -13,8 +13,9 @@ use crate::check::Check;
 use crate::engine::Engine;
 use crate::next_decision::{first_not_true, least_unset};
 use crate::theory::Theory;
-use clause_store::{Budget, Clause, Lit, NoMemory, Value};
+use clause_store::{Budget, Clause, Lit, Value};
 use conflict_learning::final_core;
+use item_list::NoMemory;
 use std::alloc::Global;
 
 impl<T: Theory> Engine<T> {

@@ -8,8 +8,9 @@ ghost use Rattle.assumption_engine.specs.Engine.{IsRight, WentBack};
 
 use crate::state::State;
 use crate::theory::Theory;
-use clause_store::{Clause, NoMemory, Store, Trail, Units};
+use clause_store::{Clause, Store, Trail, Units};
 use conflict_learning::Learned;
+use item_list::NoMemory;
 use std::alloc::Global;
 
 /// A search over a theory, which keeps its clauses and its trail from one question to the next.

@@ -13,7 +13,8 @@ use crate::answer::{Answer, Turn};
 use crate::engine::Engine;
 use crate::state::know_trail;
 use crate::theory::Theory;
-use clause_store::{Clause, Lit, NoMemory, Trail};
+use clause_store::{Clause, Lit, Trail};
+use item_list::NoMemory;
 use std::alloc::Global;
 
 impl<T: Theory> Engine<T> {

@@ -13,8 +13,9 @@ use crate::answer::{Answer, Turn};
 use crate::engine::Engine;
 use crate::state::know_trail;
 use crate::theory::Theory;
-use clause_store::{Budget, Clause, ClauseRef, NoMemory, Value};
+use clause_store::{Budget, Clause, ClauseRef, Value};
 use conflict_learning::{analyse, greatest_level};
+use item_list::NoMemory;
 use std::alloc::Global;
 
 impl<T: Theory> Engine<T> {

@@ -7,7 +7,8 @@ ghost use Rattle.clause_store.specs.Trail.{IsTrail, present_level, up_to, value_
 ghost use Rattle.propagator.specs.Fixpoint.{Extends, IsFixpoint};
 ghost use Rattle.propagator.specs.Watched.{IsReady};
 
-use clause_store::{ClauseRef, Lit, NoMemory, Store, Trail, Value};
+use clause_store::{ClauseRef, Lit, Store, Trail, Value};
+use item_list::NoMemory;
 use propagator::{Watches, propagate};
 use std::alloc::Global;
 

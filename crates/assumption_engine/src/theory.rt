@@ -6,7 +6,8 @@ ghost use Rattle.clause_store.specs.Trail.{IsTotal, values_of};
 ghost use Rattle.assumption_engine.specs.Theory.{Meaning, MeansTheSame, IsGiven, IsChecked};
 
 use crate::check::Check;
-use clause_store::{Clause, NoMemory, Says, Trail};
+use clause_store::{Clause, Says, Trail};
+use item_list::NoMemory;
 use std::alloc::Global;
 
 /// A theory has models, which are assignments of all variables. It is asked at trails, and gives

@@ -14,7 +14,6 @@ mod trail;
 
 pub use budget::Budget;
 pub use clause::{Clause, Units};
-pub use item_list::{Copied, List, NoMemory};
 pub use literal::{ClauseRef, Lit, Value, Var};
 pub use step::Step;
 pub use store::Store;

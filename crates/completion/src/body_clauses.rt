@@ -10,7 +10,8 @@ ghost use Rattle.completion.specs.Filling.{Adds, IsVar};
 
 use crate::draft::Draft;
 use crate::short_clauses::add_two;
-use clause_store::{Lit, NoMemory, Store, Var};
+use clause_store::{Lit, Store, Var};
+use item_list::NoMemory;
 use normal_program::{BodyOf, Normal, Part, literal_of};
 use std::alloc::Global;
 

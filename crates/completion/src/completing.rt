@@ -16,7 +16,8 @@ use crate::draft::Draft;
 use crate::rule_clauses::add_rules;
 use crate::short_clauses::{add_false, add_true};
 use crate::support_clauses::add_supports;
-use clause_store::{NoMemory, Store};
+use clause_store::Store;
+use item_list::NoMemory;
 use normal_program::Normal;
 use std::alloc::Global;
 

@@ -6,7 +6,8 @@ ghost use Rattle.normal_program.specs.Clauses.{is_tautology};
 ghost use Rattle.completion.specs.Filling.{Adds};
 ghost use Rattle.completion.specs.Drafts.{is_marked, IsDraft, Unmarks, with_lit, finished};
 
-use clause_store::{Lit, NoMemory, Store};
+use clause_store::{Lit, Store};
+use item_list::NoMemory;
 use std::alloc::Global;
 use std::marker::Model;
 

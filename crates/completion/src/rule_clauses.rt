@@ -6,8 +6,9 @@ ghost use Rattle.normal_program.specs.Range.{IsInRange};
 ghost use Rattle.completion.specs.Filling.{Adds, IsVar};
 
 use crate::draft::Draft;
-use clause_store::{NoMemory, Store, Var};
+use clause_store::{Store, Var};
 use ground_program::Kind;
+use item_list::NoMemory;
 use normal_program::{Normal, NormalRule};
 use std::alloc::Global;
 

@@ -5,7 +5,8 @@ ghost use Rattle.normal_program.specs.Clauses.{positive, negative, alone, cleane
 ghost use Rattle.completion.specs.Filling.{Adds, IsVar};
 
 use crate::draft::Draft;
-use clause_store::{Lit, NoMemory, Store, Var};
+use clause_store::{Lit, Store, Var};
+use item_list::NoMemory;
 use std::alloc::Global;
 
 /// Adds the clause of one literal.

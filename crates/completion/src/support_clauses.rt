@@ -9,7 +9,8 @@ ghost use Rattle.completion.specs.Filling.{Adds, IsVar};
 ghost use Rattle.completion.specs.Rows.{rows_of, AreSupports, NotesAll};
 
 use crate::draft::Draft;
-use clause_store::{Lit, NoMemory, Store, Var};
+use clause_store::{Lit, Store, Var};
+use item_list::NoMemory;
 use normal_program::{Normal, NormalRule};
 use std::alloc::Global;
 

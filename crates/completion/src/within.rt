@@ -21,8 +21,9 @@ use crate::body_clauses::define;
 use crate::draft::Draft;
 use crate::rule_clauses::{add_rules, is_choice_rule};
 use crate::short_clauses::{add_alone, add_two};
-use clause_store::{Lit, NoMemory, Store, Var};
+use clause_store::{Lit, Store, Var};
 use ground_program::Set;
+use item_list::NoMemory;
 use normal_program::{BodyOf, Normal, NormalRule, Part, literal_of};
 use std::alloc::Global;
 

@@ -10,7 +10,8 @@ ghost use Rattle.conflict_learning.specs.Analysis.{greatest_level};
 
 use crate::Learned;
 use crate::walk::{Walk, level_at};
-use clause_store::{Clause, ClauseRef, Lit, NoMemory, Store, Trail};
+use clause_store::{Clause, ClauseRef, Lit, Store, Trail};
+use item_list::NoMemory;
 use std::alloc::Global;
 use std::mem;
 

@@ -13,7 +13,8 @@ ghost use Rattle.conflict_learning.specs.Cells.{AddsDecisions, AddsBlanks, AreCe
 ghost use Rattle.conflict_learning.specs.Cells.{IsMarkable, MarksCell, MarksAll, Explains};
 ghost use Rattle.conflict_learning.specs.Cells.{ExplainsAll};
 
-use clause_store::{Clause, Lit, NoMemory, Store, Trail};
+use clause_store::{Clause, Lit, Store, Trail};
+use item_list::NoMemory;
 use std::alloc::Global;
 
 /// What stands in a cell that has no literal.

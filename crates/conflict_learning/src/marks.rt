@@ -4,7 +4,8 @@ ghost use Rattle.std.specs.Prelude.{◌≡◌, ◌<◌, ◌≤◌, [], ℕ, All,
 ghost use Rattle.clause_store.specs.Clause.{variable};
 ghost use Rattle.conflict_learning.specs.Marks.{HasNoMark, IsMarked, is_marked};
 
-use clause_store::{Lit, NoMemory, Step};
+use clause_store::{Lit, Step};
+use item_list::NoMemory;
 use std::alloc::Global;
 use std::marker::Model;
 

@@ -13,7 +13,8 @@ ghost use Rattle.conflict_learning.specs.Walk.{Begins, IsUnderWay, IsNotable, Is
 ghost use Rattle.conflict_learning.specs.Walk.{NotesAll, GoesBack, ResolvesTo};
 
 use crate::marks::{unmark_lits, unmark_steps};
-use clause_store::{Clause, Lit, NoMemory, Step, Store, Trail, Value};
+use clause_store::{Clause, Lit, Step, Store, Trail, Value};
+use item_list::NoMemory;
 use std::alloc::Global;
 
 /// A clause on its way to be learned.

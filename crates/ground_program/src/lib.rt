@@ -13,7 +13,6 @@ mod validity;
 
 pub use body::Body;
 pub use heads::Heads;
-pub use item_list::{Copied, List, NoMemory};
 pub use laws::{
     answer_sets_are_least, opening_pair_encloses, some_rule_fails, within_is_reflexive,
     within_is_transitive,

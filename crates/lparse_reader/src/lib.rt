@@ -15,7 +15,6 @@ mod whole_text;
 
 pub use fault::{ReadError, TextFault};
 pub use ground_program::Program;
-pub use item_list::NoMemory;
 pub use printing::print_program;
 pub use source_text::read_program;
 pub use text_laws::{each_text_has_one_outcome, text_reads_back};

@@ -5,7 +5,8 @@ ghost use Rattle.plain_entailment.specs.Search.{HoldsWithChoices};
 
 use crate::truth::{holds, longer};
 use clause_store::{Clause, Lit};
-use ground_program::{NoMemory, Set};
+use ground_program::Set;
+use item_list::NoMemory;
 use std::alloc::Global;
 
 /// Whether the clause is true by `values` with each choice of the selectors that come after them,

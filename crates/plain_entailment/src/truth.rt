@@ -6,7 +6,8 @@ ghost use Rattle.normal_program.specs.Body.{body_holds};
 ghost use Rattle.normal_program.specs.Normal.{extension};
 
 use clause_store::Lit;
-use ground_program::{AtomLit, NoMemory, Set, has_atom};
+use ground_program::{AtomLit, Set, has_atom};
+use item_list::NoMemory;
 use normal_program::{BodyOf, Normal};
 use std::alloc::Global;
 

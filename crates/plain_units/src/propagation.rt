@@ -6,7 +6,8 @@ ghost use Rattle.clause_store.specs.Clause.{negation};
 ghost use Rattle.clause_store.specs.Entailment.{InClosure, IsClosed, IsForcedBy, Refutes};
 ghost use Rattle.plain_units.specs.Forcing.{IsClosedUnder, IsFalseBy, IsNewlyForced};
 
-use clause_store::{Clause, Lit, NoMemory};
+use clause_store::{Clause, Lit};
+use item_list::NoMemory;
 use std::alloc::Global;
 
 /// The literals that unit propagation by the clauses gives from `lits`, with `lits` themselves.

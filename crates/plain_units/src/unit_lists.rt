@@ -5,7 +5,8 @@ ghost use Rattle.clause_store.specs.Entailment.{Absorbs, AreUnits, IsUnit, negat
 ghost use Rattle.plain_units.specs.Forcing.{HasVariable, IsAbsorbedAt};
 
 use crate::propagation::{closure, is_known_or_refuted};
-use clause_store::{Clause, Lit, NoMemory, Units};
+use clause_store::{Clause, Lit, Units};
+use item_list::NoMemory;
 use std::alloc::Global;
 
 /// Whether each clause of the list is a unit beside the clauses of `base` and the earlier ones.

@@ -6,7 +6,8 @@ ghost use Rattle.clause_store.specs.Standing.{AreFollowed, HasGoneBack};
 ghost use Rattle.propagator.specs.Watched.{IsAttached};
 
 use crate::entry::Entry;
-use clause_store::{ClauseRef, List, NoMemory, Store, Trail};
+use clause_store::{ClauseRef, Store, Trail};
+use item_list::{List, NoMemory};
 use std::alloc::Global;
 use std::marker::Model;
 

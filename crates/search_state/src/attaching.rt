@@ -3,7 +3,8 @@ ghost use Rattle.std.specs.Prelude.{◌≡◌, [], IfOk};
 ghost use Rattle.clause_store.specs.Clause.{AreOver};
 ghost use Rattle.propagator.specs.Watched.{IsReady};
 
-use clause_store::{ClauseRef, NoMemory, Store, Trail};
+use clause_store::{ClauseRef, Store, Trail};
+use item_list::NoMemory;
 use propagator::Watches;
 use std::alloc::Global;
 

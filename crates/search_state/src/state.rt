@@ -9,7 +9,8 @@ ghost use Rattle.clause_store.specs.Trail.{value_of};
 ghost use Rattle.propagator.specs.Fixpoint.{Extends, IsFixpoint};
 
 use crate::attaching::attach_all;
-use clause_store::{ClauseRef, Lit, NoMemory, Store, Trail, Value};
+use clause_store::{ClauseRef, Lit, Store, Trail, Value};
+use item_list::NoMemory;
 use propagator::{Watches, propagate};
 use std::alloc::Global;
 use std::marker::Model;

@@ -3,7 +3,8 @@
 ghost use Rattle.std.specs.Prelude.{◌≡◌, ◌<◌, ◌^◌, false, IfOk};
 
 use crate::random::clause_of;
-use clause_store::{ClauseRef, Lit, NoMemory, Store, Value, Var};
+use clause_store::{ClauseRef, Lit, Store, Value, Var};
+use item_list::NoMemory;
 use search_state::SearchState;
 use std::alloc::Global;
 

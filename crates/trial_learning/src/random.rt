@@ -4,7 +4,8 @@ ghost use Rattle.std.specs.Prelude.{false, All, IfOk, IsTrue, OnOk};
 ghost use Rattle.clause_store.specs.Clause.{IsOver, variable};
 ghost use Rattle.trial_learning.specs.Search.{IsClauseOver};
 
-use clause_store::{Clause, Lit, NoMemory};
+use clause_store::{Clause, Lit};
+use item_list::NoMemory;
 use std::alloc::Global;
 
 /// Numbers that look random and are the same for the same seed.

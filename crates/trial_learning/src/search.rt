@@ -14,8 +14,9 @@ ghost use Rattle.trial_learning.specs.Search.{AddsUnits, GoesOn, IsSearchAnswer,
 ghost use Rattle.trial_learning.specs.Search.{IsNearer, IsNotTrueAt};
 
 use crate::next_decision::{first_not_true, least_unset};
-use clause_store::{Clause, ClauseRef, Lit, NoMemory, Store, Value};
+use clause_store::{Clause, ClauseRef, Lit, Store, Value};
 use conflict_learning::{Learned, analyse, final_core, greatest_level};
+use item_list::NoMemory;
 use search_state::SearchState;
 use std::alloc::Global;
 

@@ -1,5 +1,6 @@
 // What stores, lists of clauses, budgets and trails give back.
-use clause_store::{Budget, Clause, Lit, NoMemory, Store, Trail, Units, Value, Var};
+use clause_store::{Budget, Clause, Lit, Store, Trail, Units, Value, Var};
+use item_list::NoMemory;
 use std::alloc::Global;
 use std::mem::size_of;
 

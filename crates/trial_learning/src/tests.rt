@@ -10,8 +10,9 @@ use crate::random::{Draws, clause_of, lits_of, random_clause, random_lits};
 use crate::search::{Answer, Search};
 use crate::unit_checks::are_confirmed;
 use crate::{propagation_scenes, store_scenes, unit_scenes};
-use clause_store::{Lit, NoMemory, Store};
+use clause_store::{Lit, Store};
 use conflict_learning::Learned;
+use item_list::NoMemory;
 use std::alloc::Global;
 use std::test::Fail;
 

@@ -1,5 +1,6 @@
 // The other way to what a search learned: slow unit propagation, by the definition alone.
-use clause_store::{Clause, ClauseRef, Lit, NoMemory, Store, Units};
+use clause_store::{Clause, ClauseRef, Lit, Store, Units};
+use item_list::NoMemory;
 use plain_units::{are_units, refutes};
 use std::alloc::Global;
 

@@ -1,6 +1,7 @@
 // Small lists of clauses whose closures and units are known. Literal 2 says that variable 1 is
 // true, literal 3 that it is false, and so on.
-use clause_store::{Clause, Lit, NoMemory, Units};
+use clause_store::{Clause, Lit, Units};
+use item_list::NoMemory;
 use plain_units::{absorbs, are_units, closure, refutes};
 use std::alloc::Global;
 

@@ -4,8 +4,9 @@ ghost use Rattle.ground_program.specs.Program.{IsProgram};
 ghost use Rattle.normal_program.specs.Limit.{IsNormal};
 ghost use Rattle.trial_weights.specs.Ready.{IsReady};
 
-use clause_store::{Clause, Lit, NoMemory, Says, Trail, Value};
+use clause_store::{Clause, Lit, Says, Trail, Value};
 use ground_program::Program;
+use item_list::NoMemory;
 use lparse_reader::parse;
 use normal_program::Normal;
 use rule_normaliser::normalise;

@@ -2,7 +2,8 @@ ghost use Rattle.trial_weights.specs.Ready.{IsReady};
 
 use crate::plain::{is_false_but_one, some_gives};
 use crate::scene::{Scene, normal_of};
-use clause_store::{Clause, Lit, NoMemory, Says};
+use clause_store::{Clause, Lit, Says};
+use item_list::NoMemory;
 use std::alloc::Global;
 use std::test::Fail;
 

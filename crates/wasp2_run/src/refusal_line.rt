@@ -6,7 +6,7 @@ ghost use Rattle.report.specs.declared.lines.Line.TheVariants.{NoMemory};
 ghost use Rattle.wasp2_run.specs.Run.{refusal};
 
 use byte_edges::{Sink, WriteFault};
-use ground_program::List;
+use item_list::List;
 use report::{Line, Why, write_line};
 
 /// Writes the line of a refusal.

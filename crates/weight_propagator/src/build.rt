@@ -6,8 +6,9 @@ ghost use Rattle.normal_program.specs.Limit.{IsNormal};
 ghost use Rattle.weight_propagator.specs.Rows.{AreRows, IsRowFor, judged};
 
 use crate::row::{Row, Term};
-use clause_store::{List, NoMemory, Var};
+use clause_store::Var;
 use ground_program::{AtomLit, Set};
+use item_list::{List, NoMemory};
 use normal_program::{BodyOf, Normal, literal_of};
 use std::alloc::Global;
 

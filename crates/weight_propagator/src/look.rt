@@ -9,7 +9,8 @@ ghost use Rattle.weight_propagator.specs.Rows.{not_no_sum};
 use crate::reason::collect;
 use crate::row::Row;
 use crate::side::Side;
-use clause_store::{Clause, Lit, NoMemory, Says, Trail, Value};
+use clause_store::{Clause, Lit, Says, Trail, Value};
+use item_list::NoMemory;
 use std::alloc::Global;
 
 /// What the literals of a body weigh on a trail.

@@ -6,7 +6,8 @@ ghost use Rattle.weight_propagator.specs.Rows.{IsRow, IsReason, goal_of, taken_s
 
 use crate::row::Row;
 use crate::side::Side;
-use clause_store::{Clause, Lit, NoMemory, Trail};
+use clause_store::{Clause, Lit, Trail};
+use item_list::NoMemory;
 use std::alloc::Global;
 
 /// Puts denials of literals last that are on the side, and that of the extra one, until they decide

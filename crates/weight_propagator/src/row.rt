@@ -3,7 +3,8 @@ ghost use Rattle.std.specs.Prelude.{◌≡◌};
 ghost use Rattle.weight_propagator.specs.Rows.{IsSized, head, goal_of};
 
 use crate::side::Side;
-use clause_store::{List, Lit, Var};
+use clause_store::{Lit, Var};
+use item_list::List;
 
 /// A literal of a body with its weight.
 #[derive(Debug, Drop, Clone, Copy)]

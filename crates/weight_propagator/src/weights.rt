@@ -8,8 +8,9 @@ ghost use Rattle.weight_propagator.specs.Weighed.{IsSaid};
 
 use crate::build::rows_of;
 use crate::row::Row;
-use clause_store::{Clause, NoMemory, Says, Trail};
+use clause_store::{Clause, Says, Trail};
 use ground_program::Set;
+use item_list::NoMemory;
 use normal_program::Normal;
 use std::alloc::Global;
 use std::fmt;

@@ -3,9 +3,10 @@ ghost use Rattle.std.specs.Prelude.{◌≡◌, false, IfOk, IfSome};
 ghost use Rattle.ground_program.specs.Program.{IsProgram};
 ghost use Rattle.normal_program.specs.Limit.{IsNormal};
 
-use clause_store::{Clause, Lit, NoMemory, Store, Trail, Value};
+use clause_store::{Clause, Lit, Store, Trail, Value};
 use completion::complete;
 use ground_program::Program;
+use item_list::NoMemory;
 use lparse_reader::parse;
 use normal_program::Normal;
 use rule_normaliser::normalise;

@@ -1,6 +1,7 @@
 use crate::trials::scene::{clause_of, has_values, normal_of, program_of, state_of};
-use clause_store::{Clause, ClauseRef, Lit, NoMemory, Store, Units, Value};
+use clause_store::{Clause, ClauseRef, Lit, Store, Units, Value};
 use completion::complete;
+use item_list::NoMemory;
 use plain_entailment::is_entailed;
 use rule_normaliser::{NormalError, normalise};
 use std::alloc::Global;

@@ -5,9 +5,10 @@ ghost use Rattle.ground_program.specs.Meaning.{IsSetOver};
 ghost use Rattle.normal_program.specs.Limit.{IsNormal};
 
 use crate::trials::scene::normal_of;
-use clause_store::{ClauseRef, Lit, NoMemory, Store};
+use clause_store::{ClauseRef, Lit, Store};
 use completion::complete_within;
 use ground_program::{Kind, Set};
+use item_list::NoMemory;
 use normal_program::{BodyOf, Normal, NormalRule};
 use std::alloc::Global;
 use std::test::Fail;

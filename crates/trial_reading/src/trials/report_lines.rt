@@ -3,7 +3,8 @@ ghost use Rattle.std.specs.Prelude.{◌≡◌, length, IfOk};
 ghost use Rattle.report.specs.Text.{NamesCandidate};
 
 use byte_edges::MemorySink;
-use ground_program::{List, Named, Names, NoMemory, Set};
+use ground_program::{Named, Names, Set};
+use item_list::{List, NoMemory};
 use report::{Line, Why, write_line};
 use std::alloc::Global;
 use std::process::Abort;
