@@ -10,9 +10,13 @@ use clause_store::{Lit, NoMemory, Store};
 use std::alloc::Global;
 use std::marker::Model;
 
+/// What a call gives that adds clauses to a store.
+pub type Added = Result<(), NoMemory>;
+
 /// A clause that grows literal by literal, each once.
 #[derive(Debug, Drop)]
 pub struct Draft {
+    alloc: Global,
     marks: Vec<bool>,
     lits: Vec<Lit>,
 }
@@ -35,9 +39,15 @@ impl Draft {
         ensures { result ≡ [] }
     {
         Draft {
+            alloc,
             marks: Vec::new(alloc),
             lits: Vec::new(alloc),
         }
+    }
+
+    /// The allocator that the draft was opened with.
+    pub fn allocator(&self) -> Global {
+        self.alloc
     }
 
     /// Begins a new clause.
@@ -65,10 +75,15 @@ impl Draft {
     }
 
     /// Adds the clause to a store, unless it has a literal and its negation.
-    pub fn add_to(&self, alloc: Global, store: &mut Store) -> Result<(), NoMemory>
+    pub fn add_to(&self, store: &mut Store) -> Added
         ensures { Adds result store.old store.new (finished self.now) }
     {
-        add_finished(alloc, store, self.marks.as_slice(), self.lits.as_slice())
+        add_finished(
+            self.alloc,
+            store,
+            self.marks.as_slice(),
+            self.lits.as_slice(),
+        )
     }
 }
 
@@ -128,12 +143,7 @@ fn make_room(marks: &mut Vec<bool>, lit: Lit) -> Result<(), NoMemory>
 }
 
 // Adds a clause to a store, unless it has a literal and its negation.
-fn add_finished(
-    alloc: Global,
-    store: &mut Store,
-    marks: &[bool],
-    lits: &[Lit],
-) -> Result<(), NoMemory>
+fn add_finished(alloc: Global, store: &mut Store, marks: &[bool], lits: &[Lit]) -> Added
     requires { IsDraft marks.now lits.now }
     ensures { Adds result store.old store.new (finished lits.now) }
 {
