@@ -1,16 +1,17 @@
 -- Calls that add clauses, one after another and in loops.
 use Rattle.std.proofs.Common.{ℕ, ◌≡◌, ◌<◌, ◌+◌, Result, Ok, Err, OnOk, OnErr, IsErr, List, [], ◌∷◌}
 use Rattle.std.proofs.Common.{◌++◌}
-use Rattle.std.proofs.Common.{length, get_or, map, filter, flat_map, take, refl, sym, ap, subst}
-use Rattle.std.proofs.Common.{◌∙◌, arith, Bool, true, false, cond, if◌then◌else◌}
-use Rattle.std.proofs.lemmas.List.{map-append}
+use Rattle.std.proofs.Common.{length, get_or, map, filter, flat_map, take, take_all, refl, sym, ap}
+use Rattle.std.proofs.Common.{subst, ◌∙◌, ◌≤◌, arith, Bool, true, false, cond, if◌then◌else◌}
+use Rattle.std.proofs.lemmas.List.{map-append, get_or_default}
 use Rattle.std.proofs.lemmas.List.Elements.{filter-append}
 use Rattle.std.proofs.lemmas.List.Concat.{flat_map-append}
 use Rattle.std.specs.List.{enumerate_from}
 use Rattle.std.proofs.lemmas.List.FromFn.{length-enumerate_from}
 use Rattle.clause_store.specs.declared.literal.Lit.{Lit}
 use Rattle.normal_program.specs.declared.normal.BodyOf.{BodyOf}
-use Rattle.normal_program.specs.Clauses.{cleaned}
+use Rattle.clause_store.proofs.LiteralLemmas.{lit_of_code}
+use Rattle.normal_program.specs.Clauses.{alone, cleaned}
 use Rattle.completion.specs.Filling.{Gains, GainsFirst, Adds}
 use Rattle.completion.proofs.GainLemmas.{Gains-then, Gains-first, GainsFirst-more, Gains-more}
 use Rattle.completion.proofs.GainLemmas.{Gains-stopped, flat_map-one, cleaned-append, numbered-item}
@@ -101,6 +102,46 @@ module _ {X : Type 0} (f : X → List Lit) (old mid new : List (List Lit)) (xs :
       → GainsFirst old new (cleaned (map f xs))
   mapped_stopped step =
       Gains-stopped (map f) (map-append f) old mid new xs at x item.0 item.1 before step
+
+-- want of memory at an item of a list that is read
+pub read_stopped : {X T E : Type 0} (r : Result T E) (f : X → List (List Lit))
+    (old mid new : List (List Lit)) (read xs : List X) (at : ℕ) (x : X) → IsErr r → read ≡ xs
+    → at < length read → x ≡ get_or read at x → Gains old mid (cleaned (flat_map f (take at xs)))
+    → GainsFirst mid new (cleaned (f x)) → Adds r old new (cleaned (flat_map f xs))
+read_stopped r f old mid new read xs at x stopped same within here before step =
+    Adds-stopped r old new (cleaned (flat_map f xs)) stopped
+    (flat_stopped f old mid new xs at x (item_of read xs at x same within here) before step)
+
+-- all numbered bodies, at the end of those that are read
+pub all_numbered : (f : (ℕ × BodyOf) → List (List Lit)) (old new : List (List Lit))
+    (read bodies : List BodyOf) (number : ℕ) → read ≡ bodies → length read ≤ number
+    → Gains old new (cleaned (flat_map f (take number (enumerate_from 0 bodies))))
+    → Gains old new (cleaned (flat_map f (enumerate_from 0 bodies)))
+all_numbered f old new read bodies number same past gained =
+    subst (λ items. Gains old new (cleaned (flat_map f items)))
+    (take_all number (enumerate_from 0 bodies)
+    (omega (
+      arith,
+      past,
+      length-enumerate_from 0 bodies,
+      ap (λ (some : List BodyOf). length some) same,
+    )))
+    gained
+
+-- want of memory at the literal of an atom, alone in its clause
+pub alone_stopped : {T E : Type 0} (r : Result T E) (f : ℕ → Lit) (old mid new : List (List Lit))
+    (atoms : List ℕ) (at : ℕ) (lit : Lit) → IsErr r → at < length atoms
+    → lit.0 ≡ (f (get_or atoms at 0)).0
+    → Gains old mid (cleaned (map (λ atom. alone (f atom)) (take at atoms)))
+    → GainsFirst mid new (cleaned (alone lit ∷ []))
+    → Adds r old new (cleaned (map (λ atom. alone (f atom)) atoms))
+alone_stopped r f old mid new atoms at lit stopped within same before step =
+    let atom = get_or atoms at 0 in
+    Adds-stopped r old new (cleaned (map (λ one. alone (f one)) atoms)) stopped
+    (mapped_stopped (λ one. alone (f one)) old mid new atoms at atom
+    (within, get_or_default atoms at 0 atom within) before
+    (subst (λ (one : Lit). GainsFirst mid new (cleaned (alone one ∷ [])))
+    (lit_of_code lit (f atom) same) step))
 
 module _ {X : Type 0} (f : X → List Lit) (p : X → Bool) where
   kept_apart : (xs ys : List X)

@@ -15,6 +15,7 @@ use Rattle.ground_program.specs.declared.program.Kind.TheVariants.{Basic, Constr
 use Rattle.ground_program.specs.declared.program.Kind.TheVariants.{Weight, Disjunctive}
 use Rattle.ground_program.specs.Meaning.{has, IsIn, counts, HeadHolds}
 use Rattle.ground_program.specs.Program.{HeadsFit}
+use Rattle.clause_store.specs.declared.literal.Lit.{Lit}
 use Rattle.clause_store.specs.Clause.{truth, makes_true, HoldsIn}
 use Rattle.clause_store.proofs.LiteralLemmas.{has_kept, kept_passes, has_mapped, mapped_from}
 use Rattle.clause_store.proofs.LiteralLemmas.{any_from}
@@ -153,23 +154,36 @@ module _ (normal : Normal) (set values part : List Bool)
         ∙ All-unmap (λ lit. makes_true values lit ≡ true) (λ (one : Part). literal_of one.lit)
         (positive_parts body) all k d h
 
+module _ (values : List Bool) (var : ℕ) (lits : List Lit) where
+  -- a clause with a negated variable holds, where the rest does if the variable is true
+  holds_by : (truth values var ≡ true → HoldsIn values lits)
+      → HoldsIn values (negative var ∷ lits)
+  holds_by rest =
+      ⊎_elim (λ on. HoldsIn-there values (negative var) lits (rest on))
+      (λ off. HoldsIn-here values (negative var) lits (makes_true-negative values var ∙ ap not off))
+      (cases_Bool (truth values var))
+
+  -- and if the variable is true, the rest holds
+  rest_holds : HoldsIn values (negative var ∷ lits) → truth values var ≡ true
+      → HoldsIn values lits
+  rest_holds clause on =
+      ⊎_elim
+      (λ off. absurd
+      (both_ways (makes_true values (negative var))
+      (makes_true-negative values var ∙ ap not on) off))
+      (λ rest. rest) (HoldsIn-cases values (negative var) lits clause)
+
 module _ (normal : Normal) (set values part : List Bool)
     (reads : ReadsBy normal set values part) where
   -- the variable of a rule's body is true exactly where the body holds
   pub true_holds : (rule : NormalRule) → rule.body < length normal.bodies
       → truth values (body_var normal rule.body) ≡ true → RuleBodyHolds normal.bodies set part rule
-  true_holds rule within on = by (slice_get normal.bodies rule.body) refl
-    where
-      by : (o : Option BodyOf) → slice_get normal.bodies rule.body ≡ o
-          → IsSomeAnd o (BodyHoldsN set part)
-      by None e =
-          let nobody : BodyOf = record { bound = 0; parts = [] } in
-          let here : slice_get normal.bodies rule.body
-          ≡ Some (get_or normal.bodies rule.body nobody) =
-          slice_get-get_or normal.bodies rule.body nobody within in
-          cc
-      by (Some body) e =
-          leb-true body.bound (weight_of set part body) (sym (reads.bodies rule.body body e) ∙ on)
+  true_holds rule within on =
+      let nobody : BodyOf = record { bound = 0; parts = [] } in
+      let body = get_or normal.bodies rule.body nobody in
+      let here = slice_get-get_or normal.bodies rule.body nobody within in
+      subst (λ (o : Option BodyOf). IsSomeAnd o (BodyHoldsN set part)) (sym here)
+      (leb-true body.bound (weight_of set part body) (sym (reads.bodies rule.body body here) ∙ on))
 
   pub holds_true : (rule : NormalRule) → RuleBodyHolds normal.bodies set part rule
       → truth values (body_var normal rule.body) ≡ true
@@ -185,30 +199,24 @@ module _ (normal : Normal) (set values part : List Bool)
         → KeepsN normal.bodies set part rule
         → HoldsIn values (negative (body_var normal rule.body) ∷ map positive rule.heads)
     kept_holds fit other keeps =
-        ⊎_elim
+        holds_by values (body_var normal rule.body) (map positive rule.heads)
         (λ on.
         let some =
         heads-some rule.kind set part rule.heads other fit (keeps (true_holds rule within on)) in
+        let there : Contains rule.heads some.1 = (some.0, some.2, some.3) in
         let atom : IsAtomOf normal some.1 =
-        All-contains (IsAtomOf normal) rule.heads some.1 atoms (some.0, some.2, some.3) in
-        HoldsIn-there values (negative (body_var normal rule.body)) (map positive rule.heads)
-        (HoldsIn-by values (map positive rule.heads) (positive some.1)
-        (has_mapped positive rule.heads some.1 (some.0, some.2, some.3))
-        (makes_true-positive values some.1 ∙ reads.atoms some.1 atom.last ∙ some.4)))
-        (λ off. HoldsIn-here values (negative (body_var normal rule.body)) (map positive rule.heads)
-        (makes_true-negative values (body_var normal rule.body) ∙ ap not off))
-        (cases_Bool (truth values (body_var normal rule.body)))
+        All-contains (IsAtomOf normal) rule.heads some.1 atoms there in
+        HoldsIn-by values (map positive rule.heads) (positive some.1)
+        (has_mapped positive rule.heads some.1 there)
+        (makes_true-positive values some.1 ∙ reads.atoms some.1 atom.last ∙ some.4))
 
     pub holds_kept : HeadsFit rule.kind rule.heads → is_choice rule.kind ≡ false
         → HoldsIn values (negative (body_var normal rule.body) ∷ map positive rule.heads)
         → KeepsN normal.bodies set part rule
     holds_kept fit other clause holds =
-        ⊎_elim
-        (λ off. absurd
-        (both_ways (makes_true values (negative (body_var normal rule.body)))
-        (makes_true-negative values (body_var normal rule.body)
-        ∙ ap not (holds_true rule holds)) off))
-        (λ rest.
+        let rest =
+        rest_holds values (body_var normal rule.body) (map positive rule.heads) clause
+        (holds_true rule holds) in
         let found = mapped_from positive rule.heads rest.1 (rest.0, rest.2, rest.3) in
         let atom : IsAtomOf normal found.0 =
         All-contains (IsAtomOf normal) rule.heads found.0 atoms found.1 in
@@ -216,28 +224,22 @@ module _ (normal : Normal) (set values part : List Bool)
         sym (reads.atoms found.0 atom.last) ∙ sym (makes_true-positive values found.0)
         ∙ ap (makes_true values) found.2 ∙ rest.4 in
         some-heads rule.kind set part rule.heads other fit
-        (any_from (IsIn part) rule.heads found.0 found.1 inside))
-        (HoldsIn-cases values (negative (body_var normal rule.body)) (map positive rule.heads)
-        clause)
+        (any_from (IsIn part) rule.heads found.0 found.1 inside)
 
     -- so do the clauses of a choice rule
     pub choice_kept_holds : is_choice rule.kind ≡ true → KeepsN normal.bodies set part rule
         → (head : ℕ) → Contains rule.heads head → IsIn set head
         → HoldsIn values (negative (body_var normal rule.body) ∷ positive head ∷ [])
     choice_kept_holds choice keeps head here inside =
-        ⊎_elim
+        holds_by values (body_var normal rule.body) (positive head ∷ [])
         (λ on.
         let all =
         choice_gives rule.kind set part rule.heads choice (keeps (true_holds rule within on)) in
         let atom : IsAtomOf normal head =
         All-contains (IsAtomOf normal) rule.heads head atoms here in
-        HoldsIn-there values (negative (body_var normal rule.body)) (positive head ∷ [])
-        (HoldsIn-here values (positive head) []
+        HoldsIn-here values (positive head) []
         (makes_true-positive values head ∙ reads.atoms head atom.last
-        ∙ All-contains (λ one. IsIn set one → IsIn part one) rule.heads head all here inside)))
-        (λ off. HoldsIn-here values (negative (body_var normal rule.body)) (positive head ∷ [])
-        (makes_true-negative values (body_var normal rule.body) ∙ ap not off))
-        (cases_Bool (truth values (body_var normal rule.body)))
+        ∙ All-contains (λ one. IsIn set one → IsIn part one) rule.heads head all here inside))
 
     pub choice_holds_kept : is_choice rule.kind ≡ true
         → ((head : ℕ) → Contains rule.heads head → IsIn set head
@@ -248,14 +250,9 @@ module _ (normal : Normal) (set values part : List Bool)
         (λ k d h inside.
         let head = get_or rule.heads k d in
         ⊎_elim
-        (λ off. absurd
-        (both_ways (makes_true values (negative (body_var normal rule.body)))
-        (makes_true-negative values (body_var normal rule.body)
-        ∙ ap not (holds_true rule holds)) off))
-        (λ rest. ⊎_elim
         (λ on. sym (reads.atoms head (atoms k d h).last) ∙ sym (makes_true-positive values head)
         ∙ on)
         (λ none. absurd (omega (arith, none.2)))
-        (HoldsIn-cases values (positive head) [] rest))
-        (HoldsIn-cases values (negative (body_var normal rule.body)) (positive head ∷ [])
-        (clauses head (Contains-get_or rule.heads k d h) inside)))
+        (HoldsIn-cases values (positive head) []
+        (rest_holds values (body_var normal rule.body) (positive head ∷ [])
+        (clauses head (Contains-get_or rule.heads k d h) inside) (holds_true rule holds))))

@@ -1,6 +1,6 @@
 -- The rows in which the bodies of rules are gathered, and that they make the support clauses.
 use Rattle.std.proofs.Common.{◌≡◌, ◌≤◌, ◌<◌, ◌+◌, ◌-◌, ℕ, zero, suc, Bool, true, false, cond, eqb}
-use Rattle.std.proofs.Common.{List}
+use Rattle.std.proofs.Common.{List, take, take_all}
 use Rattle.std.proofs.Common.{[], ◌∷◌, ◌++◌, length, length-set, get_or, get_or-set_same}
 use Rattle.std.proofs.Common.{get_or-set_other, slice_set, map, filter, flat_map, replicate, All}
 use Rattle.std.proofs.Common.{refl, sym, ap, ◌∙◌, arith, if◌then◌else◌, append_assoc, append-nil}
@@ -291,6 +291,16 @@ atom_at count atom first last = (
   omega (arith, length-numbers 1 count, first, last),
   omega (arith, get_or-numbers 1 count (atom - 1) atom (omega (arith, first, last)), first),
 )
+
+-- the place of the next number
+pub next_place : (atom : ℕ) → 1 ≤ atom → atom - 1 + 1 ≡ atom + 1 - 1
+next_place atom first = omega (arith, first)
+
+-- past the last number all have been read
+pub all_numbers : (count atom : ℕ) → count + 1 ≤ atom
+    → take (atom - 1) (numbers_from 1 count) ≡ numbers_from 1 count
+all_numbers count atom past =
+    take_all (atom - 1) (numbers_from 1 count) (omega (arith, length-numbers 1 count, past))
 
 -- what is read at a place of the rows
 pub row_read : (normal : Normal) (rows : Vec (Vec Lit Global) Global) (atom : ℕ)

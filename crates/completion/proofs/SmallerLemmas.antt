@@ -2,14 +2,13 @@
 use Rattle.std.proofs.Common.{◌≡◌, ◌≤◌, ◌<◌, ◌+◌, ◌-◌, ℕ, Bool, true, false, not, List, [], ◌∷◌}
 use Rattle.std.proofs.Common.{◌++◌, Some, slice_get, length, length-append, length-take-le, get_or}
 use Rattle.std.proofs.Common.{get_or-take, get_or-append-add, map, filter, flat_map, All, Contains}
-use Rattle.std.proofs.Common.{refl, sym, ap, subst, ◌∙◌, arith, ⊎_elim, if◌then◌else◌, zero-add}
+use Rattle.std.proofs.Common.{refl, sym, ap, subst, ◌∙◌, arith, ⊎_elim, if◌then◌else◌}
 use Rattle.std.specs.List.{enumerate_from}
 use Rattle.std.proofs.lemmas.Bool.{cases_Bool, cases_lt, cases_eq, both_ways, not-true}
 use Rattle.std.proofs.lemmas.List.{get_or_append_left, get_or-map, length-map, get_or_default}
 use Rattle.std.proofs.lemmas.List.{same_lists, get_or_past}
 use Rattle.std.proofs.lemmas.List.Elements.{Contains-append_left, Contains-append_right}
 use Rattle.std.proofs.lemmas.List.Elements.{Contains-get_or}
-use Rattle.std.proofs.lemmas.List.FromFn.{length-enumerate_from, get_or-enumerate_from}
 use Rattle.std.proofs.lemmas.Option.{slice_get-get_or, slice_get_within, get_or_from_slice_get}
 use Rattle.ground_program.specs.Meaning.{has, IsIn, IsSetOver, IsProperSubset}
 use Rattle.clause_store.specs.declared.literal.Lit.{Lit}
@@ -38,19 +37,17 @@ use Rattle.completion.specs.Within.{IsSmaller, IsMetWithin, IsSmallerOf}
 use Rattle.completion.proofs.InnerLemmas.{ReadsBy, same_by_turns, blocked_fails, positive_count}
 use Rattle.completion.proofs.InnerLemmas.{count_positives, positives_count, holds_kept}
 use Rattle.completion.proofs.InnerLemmas.{choice_holds_kept}
+use Rattle.completion.proofs.AddsLemmas.{numbered_of}
 use Rattle.completion.proofs.PartLemmas.{atom_there, none_at_0}
 
--- the item of a number stands among the numbered ones
-number_there : {X : Type 0} (xs : List X) (number : ℕ) (x : X) → slice_get xs number ≡ Some x
-    → Contains (enumerate_from 0 xs) (number, x)
-number_there xs number x here =
-    let within : number < length xs = slice_get_within xs number x here in
-    let number_same : 0 + number ≡ number = zero-add number in
-    let item_same : get_or xs number x ≡ x = get_or_from_slice_get xs number x x here in (
-      number,
-      omega (arith, within, length-enumerate_from 0 xs),
-      get_or-enumerate_from 0 xs number (number, x) within ∙ (λ i. (number_same i, item_same i)),
-    )
+-- the body of a number stands among the numbered ones
+number_there : (bodies : List BodyOf) (number : ℕ) (body : BodyOf)
+    → slice_get bodies number ≡ Some body → Contains (enumerate_from 0 bodies) (number, body)
+number_there bodies number body here =
+    let item =
+    numbered_of bodies bodies number body refl (slice_get_within bodies number body here)
+    (sym (get_or_from_slice_get bodies number body body here)) in
+    (number, item.0, sym item.1)
 
 -- a negated variable alone is false
 alone_false : (values : List Bool) (var : ℕ) → HoldsIn values (alone (negative var))
@@ -245,52 +242,44 @@ module _ (normal : Normal) (in_range : IsInRange normal) (set : List Bool)
   reads : ReadsBy normal set values (set_of normal values)
   reads = record { atoms = atoms_read; bodies = body_read }
 
+  -- the clause of a rule that isn't a choice rule holds
+  rule_holds : (rule : NormalRule) → Contains normal.rules rule → is_choice rule.kind ≡ false
+      → HoldsIn values (negative (body_var normal rule.body) ∷ map positive rule.heads)
+  rule_holds rule here other =
+      let clause = negative (body_var normal rule.body) ∷ map positive rule.heads in
+      hold_rule clause
+      (flat_has (rule_clauses normal) normal.rules rule clause here
+      (subst (λ b. Contains (if b then [] else clause ∷ []) clause) (sym other)
+      (has_first clause [])))
+
+  -- the clauses of a choice rule hold
+  choice_holds : (rule : NormalRule) → Contains normal.rules rule → is_choice rule.kind ≡ true
+      → (head : ℕ) → Contains rule.heads head → IsIn set head
+      → HoldsIn values (negative (body_var normal rule.body) ∷ positive head ∷ [])
+  choice_holds rule here choice head there inside =
+      let var = body_var normal rule.body in
+      let clause = negative var ∷ positive head ∷ [] in
+      let inner = filter (has set) rule.heads in
+      hold_choice clause
+      (flat_has (inner_choice_clauses normal set) normal.rules rule clause here
+      (subst
+      (λ b. Contains
+      (if b then map (λ one. negative var ∷ positive one ∷ []) inner else []) clause)
+      (sym choice)
+      (has_mapped (λ one. negative var ∷ positive one ∷ []) inner head
+      (has_kept (has set) rule.heads head there inside))))
+
   rules_kept : KeepsAllN normal set (set_of normal values)
   rules_kept k d h =
+      let rule = get_or normal.rules k d in
+      let here = Contains-get_or normal.rules k d h in
       ⊎_elim
-      (λ choice.
-      choice_holds_kept normal set values (set_of normal values) reads (get_or normal.rules k d)
-      (in_range.numbers k d h) (in_range.heads k d h) choice
-      (λ head there inside.
-      hold_choice
-      (negative (body_var normal (get_or normal.rules k d).body) ∷ positive head ∷ [])
-      (flat_has (inner_choice_clauses normal set) normal.rules (get_or normal.rules k d)
-      (negative (body_var normal (get_or normal.rules k d).body) ∷ positive head ∷ [])
-      (Contains-get_or normal.rules k d h)
-      (subst
-      (λ b. Contains
-      (if b
-      then map
-      (λ one. negative (body_var normal (get_or normal.rules k d).body) ∷ positive one ∷ [])
-      (filter (has set) (get_or normal.rules k d).heads)
-      else [])
-      (negative (body_var normal (get_or normal.rules k d).body) ∷ positive head ∷ []))
-      (sym choice)
-      (has_mapped
-      (λ one. negative (body_var normal (get_or normal.rules k d).body) ∷ positive one ∷ [])
-      (filter (has set) (get_or normal.rules k d).heads) head
-      (has_kept (has set) (get_or normal.rules k d).heads head there inside))))))
-      (λ other.
-      holds_kept normal set values (set_of normal values) reads (get_or normal.rules k d)
+      (λ choice. choice_holds_kept normal set values (set_of normal values) reads rule
+      (in_range.numbers k d h) (in_range.heads k d h) choice (choice_holds rule here choice))
+      (λ other. holds_kept normal set values (set_of normal values) reads rule
       (in_range.numbers k d h) (in_range.heads k d h) (in_range.heads_fit k d h) other
-      (hold_rule
-      (negative (body_var normal (get_or normal.rules k d).body)
-      ∷ map positive (get_or normal.rules k d).heads)
-      (flat_has (rule_clauses normal) normal.rules (get_or normal.rules k d)
-      (negative (body_var normal (get_or normal.rules k d).body)
-      ∷ map positive (get_or normal.rules k d).heads) (Contains-get_or normal.rules k d h)
-      (subst
-      (λ b. Contains
-      (if b then []
-      else (negative (body_var normal (get_or normal.rules k d).body)
-      ∷ map positive (get_or normal.rules k d).heads) ∷ [])
-      (negative (body_var normal (get_or normal.rules k d).body)
-      ∷ map positive (get_or normal.rules k d).heads))
-      (sym other)
-      (has_first
-      (negative (body_var normal (get_or normal.rules k d).body)
-      ∷ map positive (get_or normal.rules k d).heads) [])))))
-      (cases_Bool (is_choice (get_or normal.rules k d).kind))
+      (rule_holds rule here other))
+      (cases_Bool (is_choice rule.kind))
 
   -- an atom of the assignment is in the set
   inside_set : (atom : ℕ) → IsIn (set_of normal values) atom → IsIn set atom

@@ -8,41 +8,34 @@ ghost use Rattle.normal_program.specs.Clauses.{all_clauses, body_clauses, number
 ghost use Rattle.normal_program.specs.Range.{IsInRange};
 ghost use Rattle.completion.specs.Filling.{Adds, IsVar};
 
-use crate::draft::Draft;
+use crate::draft::{Added, Draft};
 use crate::short_clauses::add_two;
 use clause_store::{Lit, Store, Var};
 use item_list::NoMemory;
 use normal_program::{BodyOf, Normal, Part, literal_of};
-use std::alloc::Global;
 
 /// Adds the clauses of all conjunctive bodies.
-pub fn add_bodies(
-    alloc: Global,
-    normal: &Normal,
-    draft: &mut Draft,
-    store: &mut Store,
-) -> Result<(), NoMemory>
+pub fn add_bodies(normal: &Normal, draft: &mut Draft, store: &mut Store) -> Added
     requires { IsInRange normal.now }
     ensures { Adds result store.old store.new
         (cleaned (flat_map (body_clauses normal.now) (numbered_bodies normal.now))) }
 {
-    let mut lits = Vec::new(alloc);
+    let mut lits = Vec::new(draft.allocator());
     for (number, body) in normal.bodies.as_slice().iter().enumerate() {
         let var = Var(normal.atoms + 1 + number as u32);
-        add_body(alloc, draft, store, &mut lits, var, body)?;
+        add_body(draft, store, &mut lits, var, body)?;
     }
     Ok(())
 }
 
 // The clauses of a body, if it is conjunctive. The literals are made in `lits`.
 fn add_body(
-    alloc: Global,
     draft: &mut Draft,
     store: &mut Store,
     lits: &mut Vec<Lit>,
     var: Var,
     body: &BodyOf,
-) -> Result<(), NoMemory>
+) -> Added
     requires var { IsVar var.0 }
     requires parts { All (λ part. IsVar part.lit.atom) body.now.parts }
     ensures { Adds result store.old store.new (cleaned
@@ -52,7 +45,7 @@ fn add_body(
         return Ok(());
     }
     read_literals(lits, body.parts.as_slice())?;
-    define(alloc, draft, store, var, lits.as_slice())
+    define(draft, store, var, lits.as_slice())
 }
 
 // Makes the literals of a body.
@@ -68,48 +61,30 @@ fn read_literals(lits: &mut Vec<Lit>, parts: &[Part]) -> Result<(), NoMemory>
 }
 
 /// The variable is true exactly where all literals are.
-pub fn define(
-    alloc: Global,
-    draft: &mut Draft,
-    store: &mut Store,
-    var: Var,
-    lits: &[Lit],
-) -> Result<(), NoMemory>
+pub fn define(draft: &mut Draft, store: &mut Store, var: Var, lits: &[Lit]) -> Added
     requires var { IsVar var.0 }
     requires lits { All (λ lit. 1 ≤ variable lit) lits.now }
     ensures { Adds result store.old store.new (cleaned (all_clauses var.0 lits.now)) }
 {
-    imply_each(alloc, draft, store, var, lits)?;
-    all_or_false(alloc, draft, store, var, lits)
+    imply_each(draft, store, var, lits)?;
+    all_or_false(draft, store, var, lits)
 }
 
 // Where the variable is true, so is each literal.
-fn imply_each(
-    alloc: Global,
-    draft: &mut Draft,
-    store: &mut Store,
-    var: Var,
-    lits: &[Lit],
-) -> Result<(), NoMemory>
+fn imply_each(draft: &mut Draft, store: &mut Store, var: Var, lits: &[Lit]) -> Added
     requires var { IsVar var.0 }
     requires lits { All (λ lit. 1 ≤ variable lit) lits.now }
     ensures { Adds result store.old store.new
         (cleaned (map (λ lit. negative var.0 ∷ lit ∷ []) lits.now)) }
 {
     for lit in lits {
-        add_two(alloc, draft, store, var.negative(), *lit)?;
+        add_two(draft, store, var.negative(), *lit)?;
     }
     Ok(())
 }
 
 // Where all literals are true, so is the variable.
-fn all_or_false(
-    alloc: Global,
-    draft: &mut Draft,
-    store: &mut Store,
-    var: Var,
-    lits: &[Lit],
-) -> Result<(), NoMemory>
+fn all_or_false(draft: &mut Draft, store: &mut Store, var: Var, lits: &[Lit]) -> Added
     requires var { IsVar var.0 }
     requires lits { All (λ lit. 1 ≤ variable lit) lits.now }
     ensures { Adds result store.old store.new
@@ -119,5 +94,5 @@ fn all_or_false(
     for lit in lits {
         draft.push(lit.negated())?;
     }
-    draft.add_to(alloc, store)
+    draft.add_to(store)
 }

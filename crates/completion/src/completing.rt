@@ -12,7 +12,7 @@ ghost use Rattle.normal_program.specs.Range.{IsInRange};
 ghost use Rattle.completion.specs.Filling.{Adds, GainsFirst};
 
 use crate::body_clauses::add_bodies;
-use crate::draft::Draft;
+use crate::draft::{Added, Draft};
 use crate::rule_clauses::add_rules;
 use crate::short_clauses::{add_false, add_true};
 use crate::support_clauses::add_supports;
@@ -39,66 +39,46 @@ pub fn complete(alloc: Global, normal: &Normal, store: &mut Store) -> Result<(),
     ensures models { MakeModels normal.now }
 {
     let mut draft = Draft::open(alloc);
-    complete_whole(alloc, normal, &mut draft, store)
+    complete_whole(normal, &mut draft, store)
 }
 
 // All base clauses.
-fn complete_whole(
-    alloc: Global,
-    normal: &Normal,
-    draft: &mut Draft,
-    store: &mut Store,
-) -> Result<(), NoMemory>
+fn complete_whole(normal: &Normal, draft: &mut Draft, store: &mut Store) -> Added
     requires { IsInRange normal.now }
     ensures { Adds result store.old store.new (base_clauses normal.now) }
 {
-    add_program(alloc, normal, draft, store)?;
-    add_compute(alloc, normal, draft, store)
+    add_program(normal, draft, store)?;
+    add_compute(normal, draft, store)
 }
 
 // The clauses of bodies, of rules and of the support of atoms.
-fn add_program(
-    alloc: Global,
-    normal: &Normal,
-    draft: &mut Draft,
-    store: &mut Store,
-) -> Result<(), NoMemory>
+fn add_program(normal: &Normal, draft: &mut Draft, store: &mut Store) -> Added
     requires { IsInRange normal.now }
     ensures { Adds result store.old store.new
         (cleaned (flat_map (body_clauses normal.now) (numbered_bodies normal.now)
         ++ flat_map (rule_clauses normal.now) normal.now.rules
         ++ map (support_clause normal.now) (atoms_of_normal normal.now))) }
 {
-    add_bodies_and_rules(alloc, normal, draft, store)?;
-    add_supports(alloc, normal, draft, store)
+    add_bodies_and_rules(normal, draft, store)?;
+    add_supports(normal, draft, store)
 }
 
 // The clauses of bodies and of rules.
-fn add_bodies_and_rules(
-    alloc: Global,
-    normal: &Normal,
-    draft: &mut Draft,
-    store: &mut Store,
-) -> Result<(), NoMemory>
+fn add_bodies_and_rules(normal: &Normal, draft: &mut Draft, store: &mut Store) -> Added
     requires { IsInRange normal.now }
     ensures { Adds result store.old store.new
         (cleaned (flat_map (body_clauses normal.now) (numbered_bodies normal.now)
         ++ flat_map (rule_clauses normal.now) normal.now.rules)) }
 {
-    add_bodies(alloc, normal, draft, store)?;
-    add_rules(alloc, normal, draft, store)
+    add_bodies(normal, draft, store)?;
+    add_rules(normal, draft, store)
 }
 
 // The clauses of the compute statement.
-fn add_compute(
-    alloc: Global,
-    normal: &Normal,
-    draft: &mut Draft,
-    store: &mut Store,
-) -> Result<(), NoMemory>
+fn add_compute(normal: &Normal, draft: &mut Draft, store: &mut Store) -> Added
     requires { IsInRange normal.now }
     ensures { Adds result store.old store.new (cleaned (compute_clauses normal.now)) }
 {
-    add_true(alloc, draft, store, normal.must.as_slice())?;
-    add_false(alloc, draft, store, normal.must_not.as_slice())
+    add_true(draft, store, normal.must.as_slice())?;
+    add_false(draft, store, normal.must_not.as_slice())
 }

@@ -11,9 +11,13 @@ use item_list::NoMemory;
 use std::alloc::Global;
 use std::marker::Model;
 
+/// What a call gives that adds clauses to a store.
+pub type Added = Result<(), NoMemory>;
+
 /// A clause that grows literal by literal, each once.
 #[derive(Debug, Drop)]
 pub struct Draft {
+    alloc: Global,
     marks: Vec<bool>,
     lits: Vec<Lit>,
 }
@@ -36,9 +40,15 @@ impl Draft {
         ensures { result ≡ [] }
     {
         Draft {
+            alloc,
             marks: Vec::new(alloc),
             lits: Vec::new(alloc),
         }
+    }
+
+    /// The allocator that the draft was opened with.
+    pub fn allocator(&self) -> Global {
+        self.alloc
     }
 
     /// Begins a new clause.
@@ -66,10 +76,15 @@ impl Draft {
     }
 
     /// Adds the clause to a store, unless it has a literal and its negation.
-    pub fn add_to(&self, alloc: Global, store: &mut Store) -> Result<(), NoMemory>
+    pub fn add_to(&self, store: &mut Store) -> Added
         ensures { Adds result store.old store.new (finished self.now) }
     {
-        add_finished(alloc, store, self.marks.as_slice(), self.lits.as_slice())
+        add_finished(
+            self.alloc,
+            store,
+            self.marks.as_slice(),
+            self.lits.as_slice(),
+        )
     }
 }
 
@@ -129,12 +144,7 @@ fn make_room(marks: &mut Vec<bool>, lit: Lit) -> Result<(), NoMemory>
 }
 
 // Adds a clause to a store, unless it has a literal and its negation.
-fn add_finished(
-    alloc: Global,
-    store: &mut Store,
-    marks: &[bool],
-    lits: &[Lit],
-) -> Result<(), NoMemory>
+fn add_finished(alloc: Global, store: &mut Store, marks: &[bool], lits: &[Lit]) -> Added
     requires { IsDraft marks.now lits.now }
     ensures { Adds result store.old store.new (finished lits.now) }
 {

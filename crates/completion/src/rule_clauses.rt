@@ -5,38 +5,30 @@ ghost use Rattle.normal_program.specs.Clauses.{cleaned};
 ghost use Rattle.normal_program.specs.Range.{IsInRange};
 ghost use Rattle.completion.specs.Filling.{Adds, IsVar};
 
+<<<<<<< HEAD
 use crate::draft::Draft;
+=======
+use crate::draft::{Added, Draft};
+>>>>>>> 7b821a7
 use clause_store::{Store, Var};
 use ground_program::Kind;
 use item_list::NoMemory;
 use normal_program::{Normal, NormalRule};
-use std::alloc::Global;
 
 /// Adds the clauses of all rules that aren't choice rules.
-pub fn add_rules(
-    alloc: Global,
-    normal: &Normal,
-    draft: &mut Draft,
-    store: &mut Store,
-) -> Result<(), NoMemory>
+pub fn add_rules(normal: &Normal, draft: &mut Draft, store: &mut Store) -> Added
     requires { IsInRange normal.now }
     ensures { Adds result store.old store.new
         (cleaned (flat_map (rule_clauses normal.now) normal.now.rules)) }
 {
     for rule in normal.rules.as_slice() {
-        add_rule(alloc, draft, store, Var(normal.atoms + 1 + rule.body), rule)?;
+        add_rule(draft, store, Var(normal.atoms + 1 + rule.body), rule)?;
     }
     Ok(())
 }
 
 // The clause of a rule, if it isn't a choice rule.
-fn add_rule(
-    alloc: Global,
-    draft: &mut Draft,
-    store: &mut Store,
-    var: Var,
-    rule: &NormalRule,
-) -> Result<(), NoMemory>
+fn add_rule(draft: &mut Draft, store: &mut Store, var: Var, rule: &NormalRule) -> Added
     requires var { IsVar var.0 }
     requires heads { All IsVar rule.now.heads }
     ensures { Adds result store.old store.new (cleaned
@@ -46,7 +38,7 @@ fn add_rule(
     if is_choice_rule(rule) {
         return Ok(());
     }
-    add_heads(alloc, draft, store, var, rule.heads.as_slice())
+    add_heads(draft, store, var, rule.heads.as_slice())
 }
 
 /// Whether a rule is a choice rule.
@@ -60,13 +52,7 @@ pub fn is_choice_rule(rule: &NormalRule) -> bool
 }
 
 // Where the body's variable is true, some head is.
-fn add_heads(
-    alloc: Global,
-    draft: &mut Draft,
-    store: &mut Store,
-    var: Var,
-    heads: &[u32],
-) -> Result<(), NoMemory>
+fn add_heads(draft: &mut Draft, store: &mut Store, var: Var, heads: &[u32]) -> Added
     requires var { IsVar var.0 }
     requires heads { All IsVar heads.now }
     ensures { Adds result store.old store.new
@@ -76,5 +62,5 @@ fn add_heads(
     for head in heads {
         draft.push(Var(*head).positive())?;
     }
-    draft.add_to(alloc, store)
+    draft.add_to(store)
 }

@@ -8,38 +8,32 @@ ghost use Rattle.normal_program.specs.Range.{IsInRange};
 ghost use Rattle.completion.specs.Filling.{Adds, IsVar};
 ghost use Rattle.completion.specs.Rows.{rows_of, AreSupports, NotesAll};
 
+<<<<<<< HEAD
 use crate::draft::Draft;
 use clause_store::{Lit, Store, Var};
 use item_list::NoMemory;
+=======
+use crate::draft::{Added, Draft};
+use clause_store::{Lit, Store, Var};
+>>>>>>> 7b821a7
 use normal_program::{Normal, NormalRule};
 use std::alloc::Global;
 
 /// Adds the support clause of each atom.
-pub fn add_supports(
-    alloc: Global,
-    normal: &Normal,
-    draft: &mut Draft,
-    store: &mut Store,
-) -> Result<(), NoMemory>
+pub fn add_supports(normal: &Normal, draft: &mut Draft, store: &mut Store) -> Added
     requires { IsInRange normal.now }
     ensures { Adds result store.old store.new
         (cleaned (map (support_clause normal.now) (atoms_of_normal normal.now))) }
 {
-    let rows = gather(alloc, normal)?;
+    let rows = gather(draft.allocator(), normal)?;
     for atom in 1..normal.atoms + 1 {
-        add_support(alloc, draft, store, atom, rows[atom as usize].as_slice())?;
+        add_support(draft, store, atom, rows[atom as usize].as_slice())?;
     }
     Ok(())
 }
 
 // The clause of an atom and the bodies of its rules.
-fn add_support(
-    alloc: Global,
-    draft: &mut Draft,
-    store: &mut Store,
-    atom: u32,
-    bodies: &[Lit],
-) -> Result<(), NoMemory>
+fn add_support(draft: &mut Draft, store: &mut Store, atom: u32, bodies: &[Lit]) -> Added
     requires atom { IsVar atom }
     requires bodies { All (λ lit. 1 ≤ variable lit) bodies.now }
     ensures { Adds result store.old store.new (cleaned ((negative atom ∷ bodies.now) ∷ [])) }
@@ -48,7 +42,7 @@ fn add_support(
     for body in bodies {
         draft.push(*body)?;
     }
-    draft.add_to(alloc, store)
+    draft.add_to(store)
 }
 
 // For each atom the bodies of its rules, in the order of the rules.

@@ -18,7 +18,7 @@ ghost use Rattle.completion.specs.Drafts.{with_lit};
 ghost use Rattle.completion.specs.Within.{HoldWithin, MakeSmaller};
 
 use crate::body_clauses::define;
-use crate::draft::Draft;
+use crate::draft::{Added, Draft};
 use crate::rule_clauses::{add_rules, is_choice_rule};
 use crate::short_clauses::{add_alone, add_two};
 use clause_store::{Lit, Store, Var};
@@ -51,32 +51,20 @@ pub fn complete_within(
     ensures make { MakeSmaller normal.now set.now }
 {
     let mut draft = Draft::open(alloc);
-    add_within(alloc, normal, set.as_slice(), &mut draft, store)
+    add_within(normal, set.as_slice(), &mut draft, store)
 }
 
 // All clauses for the parts of a set.
-fn add_within(
-    alloc: Global,
-    normal: &Normal,
-    set: &[bool],
-    draft: &mut Draft,
-    store: &mut Store,
-) -> Result<(), NoMemory>
+fn add_within(normal: &Normal, set: &[bool], draft: &mut Draft, store: &mut Store) -> Added
     requires { IsInRange normal.now }
     ensures { Adds result store.old store.new (inner_clauses normal.now set.now) }
 {
-    add_kept_rules(alloc, normal, set, draft, store)?;
-    add_choices(alloc, normal, set, draft, store)
+    add_kept_rules(normal, set, draft, store)?;
+    add_choices(normal, set, draft, store)
 }
 
 // Those of atoms, of bodies, and of rules that aren't choice rules.
-fn add_kept_rules(
-    alloc: Global,
-    normal: &Normal,
-    set: &[bool],
-    draft: &mut Draft,
-    store: &mut Store,
-) -> Result<(), NoMemory>
+fn add_kept_rules(normal: &Normal, set: &[bool], draft: &mut Draft, store: &mut Store) -> Added
     requires { IsInRange normal.now }
     ensures { Adds result store.old store.new (cleaned
         (map (λ atom. alone (negative atom)) (atoms_outside normal.now set.now)
@@ -84,71 +72,52 @@ fn add_kept_rules(
         ++ flat_map (inner_body_clauses normal.now set.now) (numbered_bodies normal.now)
         ++ flat_map (rule_clauses normal.now) normal.now.rules)) }
 {
-    add_atoms_and_bodies(alloc, normal, set, draft, store)?;
-    add_rules(alloc, normal, draft, store)
+    add_atoms_and_bodies(normal, set, draft, store)?;
+    add_rules(normal, draft, store)
 }
 
 // Those of atoms and of bodies.
 fn add_atoms_and_bodies(
-    alloc: Global,
     normal: &Normal,
     set: &[bool],
     draft: &mut Draft,
     store: &mut Store,
-) -> Result<(), NoMemory>
+) -> Added
     requires { IsInRange normal.now }
     ensures { Adds result store.old store.new (cleaned
         (map (λ atom. alone (negative atom)) (atoms_outside normal.now set.now)
         ++ map negative (atoms_in normal.now set.now) ∷ []
         ++ flat_map (inner_body_clauses normal.now set.now) (numbered_bodies normal.now))) }
 {
-    add_atoms(alloc, normal, set, draft, store)?;
-    add_inner_bodies(alloc, normal, set, draft, store)
+    add_atoms(normal, set, draft, store)?;
+    add_inner_bodies(normal, set, draft, store)
 }
 
 // Those of atoms: a part has none outside the set, and not all in it.
-fn add_atoms(
-    alloc: Global,
-    normal: &Normal,
-    set: &[bool],
-    draft: &mut Draft,
-    store: &mut Store,
-) -> Result<(), NoMemory>
+fn add_atoms(normal: &Normal, set: &[bool], draft: &mut Draft, store: &mut Store) -> Added
     requires { IsInRange normal.now }
     ensures { Adds result store.old store.new (cleaned
         (map (λ atom. alone (negative atom)) (atoms_outside normal.now set.now)
         ++ map negative (atoms_in normal.now set.now) ∷ [])) }
 {
-    add_outside(alloc, normal, set, draft, store)?;
-    add_not_all(alloc, normal, set, draft, store)
+    add_outside(normal, set, draft, store)?;
+    add_not_all(normal, set, draft, store)
 }
 
 // The atoms outside the set are false.
-fn add_outside(
-    alloc: Global,
-    normal: &Normal,
-    set: &[bool],
-    draft: &mut Draft,
-    store: &mut Store,
-) -> Result<(), NoMemory>
+fn add_outside(normal: &Normal, set: &[bool], draft: &mut Draft, store: &mut Store) -> Added
     requires { IsInRange normal.now }
     ensures { Adds result store.old store.new
         (cleaned (map (λ atom. alone (negative atom)) (atoms_outside normal.now set.now))) }
 {
     for atom in 1..normal.atoms + 1 {
-        add_if_outside(alloc, set, draft, store, atom)?;
+        add_if_outside(set, draft, store, atom)?;
     }
     Ok(())
 }
 
 // An atom is false, if it is outside the set.
-fn add_if_outside(
-    alloc: Global,
-    set: &[bool],
-    draft: &mut Draft,
-    store: &mut Store,
-    atom: u32,
-) -> Result<(), NoMemory>
+fn add_if_outside(set: &[bool], draft: &mut Draft, store: &mut Store, atom: u32) -> Added
     requires { IsVar atom }
     ensures { Adds result store.old store.new (cleaned
         (if not (has set.now atom) then alone (negative atom) ∷ [] else [])) }
@@ -156,7 +125,7 @@ fn add_if_outside(
     if is_in(set, atom) {
         return Ok(());
     }
-    add_alone(alloc, draft, store, Var(atom).negative())
+    add_alone(draft, store, Var(atom).negative())
 }
 
 // Whether an atom is in the set.
@@ -167,13 +136,7 @@ fn is_in(set: &[bool], atom: u32) -> bool
 }
 
 // Some atom of the set is false.
-fn add_not_all(
-    alloc: Global,
-    normal: &Normal,
-    set: &[bool],
-    draft: &mut Draft,
-    store: &mut Store,
-) -> Result<(), NoMemory>
+fn add_not_all(normal: &Normal, set: &[bool], draft: &mut Draft, store: &mut Store) -> Added
     requires { IsInRange normal.now }
     ensures { Adds result store.old store.new
         (cleaned (map negative (atoms_in normal.now set.now) ∷ [])) }
@@ -182,7 +145,7 @@ fn add_not_all(
     for atom in 1..normal.atoms + 1 {
         push_if_in(draft, set, atom)?;
     }
-    draft.add_to(alloc, store)
+    draft.add_to(store)
 }
 
 // Puts the negation of an atom last, if the atom is in the set.
@@ -198,35 +161,28 @@ fn push_if_in(draft: &mut Draft, set: &[bool], atom: u32) -> Result<(), NoMemory
 }
 
 // What conjunctive bodies mean in the parts of the set.
-fn add_inner_bodies(
-    alloc: Global,
-    normal: &Normal,
-    set: &[bool],
-    draft: &mut Draft,
-    store: &mut Store,
-) -> Result<(), NoMemory>
+fn add_inner_bodies(normal: &Normal, set: &[bool], draft: &mut Draft, store: &mut Store) -> Added
     requires { IsInRange normal.now }
     ensures { Adds result store.old store.new (cleaned
         (flat_map (inner_body_clauses normal.now set.now) (numbered_bodies normal.now))) }
 {
-    let mut lits = Vec::new(alloc);
+    let mut lits = Vec::new(draft.allocator());
     for (number, body) in normal.bodies.as_slice().iter().enumerate() {
         let var = Var(normal.atoms + 1 + number as u32);
-        add_inner_body(alloc, set, draft, store, &mut lits, var, body)?;
+        add_inner_body(&mut lits, draft, store, var, set, body)?;
     }
     Ok(())
 }
 
 // What a body means there, if it is conjunctive. The literals are made in `lits`.
 fn add_inner_body(
-    alloc: Global,
-    set: &[bool],
+    lits: &mut Vec<Lit>,
     draft: &mut Draft,
     store: &mut Store,
-    lits: &mut Vec<Lit>,
     var: Var,
+    set: &[bool],
     body: &BodyOf,
-) -> Result<(), NoMemory>
+) -> Added
     requires var { IsVar var.0 }
     requires parts { All (λ part. IsVar part.lit.atom) body.now.parts }
     ensures { Adds result store.old store.new (cleaned
@@ -238,10 +194,10 @@ fn add_inner_body(
         return Ok(());
     }
     if is_blocked_by(set, body) {
-        return add_alone(alloc, draft, store, var.negative());
+        return add_alone(draft, store, var.negative());
     }
     read_positives(lits, body.parts.as_slice())?;
-    define(alloc, draft, store, var, lits.as_slice())
+    define(draft, store, var, lits.as_slice())
 }
 
 // Whether a body has a negative literal whose atom is in the set.
@@ -272,39 +228,25 @@ fn read_positives(lits: &mut Vec<Lit>, parts: &[Part]) -> Result<(), NoMemory>
 }
 
 // What choice rules mean in the parts of the set.
-fn add_choices(
-    alloc: Global,
-    normal: &Normal,
-    set: &[bool],
-    draft: &mut Draft,
-    store: &mut Store,
-) -> Result<(), NoMemory>
+fn add_choices(normal: &Normal, set: &[bool], draft: &mut Draft, store: &mut Store) -> Added
     requires { IsInRange normal.now }
     ensures { Adds result store.old store.new
         (cleaned (flat_map (inner_choice_clauses normal.now set.now) normal.now.rules)) }
 {
     for rule in normal.rules.as_slice() {
-        add_choice(
-            alloc,
-            set,
-            draft,
-            store,
-            Var(normal.atoms + 1 + rule.body),
-            rule,
-        )?;
+        add_choice(set, draft, store, Var(normal.atoms + 1 + rule.body), rule)?;
     }
     Ok(())
 }
 
 // What a rule means there, if it is a choice rule.
 fn add_choice(
-    alloc: Global,
     set: &[bool],
     draft: &mut Draft,
     store: &mut Store,
     var: Var,
     rule: &NormalRule,
-) -> Result<(), NoMemory>
+) -> Added
     requires var { IsVar var.0 }
     requires heads { All IsVar rule.now.heads }
     ensures { Adds result store.old store.new (cleaned
@@ -316,38 +258,24 @@ fn add_choice(
     if !is_choice_rule(rule) {
         return Ok(());
     }
-    add_chosen(alloc, set, draft, store, var, rule.heads.as_slice())
+    add_chosen(set, draft, store, var, rule.heads.as_slice())
 }
 
 // Where the variable is true, so is each of the heads that is in the set.
-fn add_chosen(
-    alloc: Global,
-    set: &[bool],
-    draft: &mut Draft,
-    store: &mut Store,
-    var: Var,
-    heads: &[u32],
-) -> Result<(), NoMemory>
+fn add_chosen(set: &[bool], draft: &mut Draft, store: &mut Store, var: Var, heads: &[u32]) -> Added
     requires var { IsVar var.0 }
     requires heads { All IsVar heads.now }
     ensures { Adds result store.old store.new (cleaned
         (map (λ head. negative var.0 ∷ positive head ∷ []) (filter (has set.now) heads.now))) }
 {
     for head in heads {
-        add_if_chosen(alloc, set, draft, store, var, *head)?;
+        add_if_chosen(set, draft, store, var, *head)?;
     }
     Ok(())
 }
 
 // Where the variable is true, so is the head, if it is in the set.
-fn add_if_chosen(
-    alloc: Global,
-    set: &[bool],
-    draft: &mut Draft,
-    store: &mut Store,
-    var: Var,
-    head: u32,
-) -> Result<(), NoMemory>
+fn add_if_chosen(set: &[bool], draft: &mut Draft, store: &mut Store, var: Var, head: u32) -> Added
     requires var { IsVar var.0 }
     requires head { IsVar head }
     ensures { Adds result store.old store.new (cleaned
@@ -356,5 +284,5 @@ fn add_if_chosen(
     if !is_in(set, head) {
         return Ok(());
     }
-    add_two(alloc, draft, store, var.negative(), Var(head).positive())
+    add_two(draft, store, var.negative(), Var(head).positive())
 }

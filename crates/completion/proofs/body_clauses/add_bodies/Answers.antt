@@ -1,10 +1,7 @@
-use Rattle.std.proofs.Common.{◌≡◌, ◌<◌, List, length, flat_map, take, take_all, get_or, subst, ap}
 use Rattle.std.proofs.Common.{arith}
-use Rattle.std.proofs.lemmas.List.FromFn.{length-enumerate_from}
-use Rattle.normal_program.specs.declared.normal.BodyOf.{BodyOf}
-use Rattle.normal_program.specs.Clauses.{body_clauses, numbered_bodies, cleaned}
-use Rattle.completion.specs.Filling.{Gains}
+use Rattle.normal_program.specs.Clauses.{body_clauses, numbered_bodies}
 use Rattle.completion.proofs.AddsLemmas.{Adds-stopped, flat_more, flat_stopped, numbered_of}
+use Rattle.completion.proofs.AddsLemmas.{all_numbered}
 use Rattle.completion.proofs.body_clauses.add_bodies.Goals as goal
 
 pub loop-number-preserved : goal.loop-number-preserved
@@ -34,15 +31,6 @@ returns-in_err-add_body c =
 pub returns : goal.returns
 returns c =
     let normal = c.args.normal.now in
-    let all : take c.loop-number.number (numbered_bodies normal) ≡ numbered_bodies normal =
-    take_all c.loop-number.number (numbered_bodies normal)
-    (omega (
-      arith,
-      c.loop-number-test.false,
-      length-enumerate_from 0 normal.bodies,
-      ap (λ (bodies : List BodyOf). length bodies) c.as_slice-body-items.ensures,
-    )) in
-    subst
-    (λ items. Gains c.args.store.now c.loop-number.store
-    (cleaned (flat_map (body_clauses normal) items))) all
-    c.loop-number.invariant
+    all_numbered (body_clauses normal) c.args.store.now c.loop-number.store
+    c.as_slice-body-items.result.now normal.bodies c.loop-number.number
+    c.as_slice-body-items.ensures (omega (arith, c.loop-number-test.false)) c.loop-number.invariant

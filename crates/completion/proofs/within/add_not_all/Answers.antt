@@ -1,11 +1,11 @@
-use Rattle.std.proofs.Common.{◌≡◌, ◌≤◌, ◌+◌, ◌-◌, map, filter, take, take_all, subst, ap, ◌∙◌}
+use Rattle.std.proofs.Common.{◌≡◌, ◌≤◌, ◌+◌, ◌-◌, map, filter, take, subst, ap, ◌∙◌}
 use Rattle.std.proofs.Common.{arith}
 use Rattle.ground_program.specs.Meaning.{has}
 use Rattle.normal_program.specs.Clauses.{negative, atoms_of_normal, each_once}
 use Rattle.normal_program.specs.Spent.{atoms_in}
 use Rattle.completion.specs.Filling.{Adds}
 use Rattle.completion.proofs.DraftLemmas.{kept_pushed, finished-cleaned}
-use Rattle.completion.proofs.RowLemmas.{length-numbers, atom_at}
+use Rattle.completion.proofs.RowLemmas.{next_place, all_numbers, atom_at}
 use Rattle.completion.proofs.within.add_not_all.Goals as goal
 
 pub loop-atom-preserved : goal.loop-atom-preserved
@@ -13,13 +13,12 @@ loop-atom-preserved c =
     let normal = c.args.normal.now in
     let set = c.args.set.now in
     let atom = c.loop-atom.atom in
-    let first : 1 ≤ atom = c.loop-atom.auto.atom in
-    let next : atom - 1 + 1 ≡ atom + 1 - 1 = omega (arith, first) in
-    let item = atom_at normal.atoms atom first (omega (arith, c.loop-atom-test.true)) in
+    let item =
+    atom_at normal.atoms atom c.loop-atom.auto.atom (omega (arith, c.loop-atom-test.true)) in
     subst
     (λ n. c.push_if_in.new.draft
     ≡ each_once (map negative (filter (has set) (take n (atoms_of_normal normal)))))
-    next
+    (next_place atom c.loop-atom.auto.atom)
     (kept_pushed negative (has set) (atoms_of_normal normal) (atom - 1) atom c.loop-atom.draft
     c.push_if_in.new.draft item.0 item.1 c.loop-atom.invariant c.in_ok-push_if_in.ensures)
 
@@ -27,11 +26,10 @@ pub returns : goal.returns
 returns c =
     let normal = c.args.normal.now in
     let set = c.args.set.now in
-    let all : take (c.loop-atom.atom - 1) (atoms_of_normal normal) ≡ atoms_of_normal normal =
-    take_all (c.loop-atom.atom - 1) (atoms_of_normal normal)
-    (omega (arith, length-numbers 1 normal.atoms, c.loop-atom-test.false)) in
+    let past : normal.atoms + 1 ≤ c.loop-atom.atom = omega (arith, c.loop-atom-test.false) in
     subst (Adds c.add_to.result c.args.store.now c.add_to.new.store)
     (finished-cleaned c.loop-atom.draft (map negative (atoms_in normal set))
     (c.loop-atom.invariant
-    ∙ ap (λ atoms. each_once (map negative (filter (has set) atoms))) all))
+    ∙ ap (λ atoms. each_once (map negative (filter (has set) atoms)))
+    (all_numbers normal.atoms c.loop-atom.atom past)))
     c.add_to.ensures

@@ -1,9 +1,9 @@
-use Rattle.std.proofs.Common.{◌≡◌, ◌≤◌, ◌+◌, ◌-◌, not, map, filter, take, take_all, subst, arith}
+use Rattle.std.proofs.Common.{◌≡◌, ◌≤◌, ◌+◌, ◌-◌, not, map, filter, take, subst, arith}
 use Rattle.ground_program.specs.Meaning.{has}
 use Rattle.normal_program.specs.Clauses.{negative, alone, atoms_of_normal, cleaned}
 use Rattle.completion.specs.Filling.{Gains}
 use Rattle.completion.proofs.AddsLemmas.{Adds-stopped, kept_more, kept_stopped}
-use Rattle.completion.proofs.RowLemmas.{length-numbers, atom_at}
+use Rattle.completion.proofs.RowLemmas.{next_place, all_numbers, atom_at}
 use Rattle.completion.proofs.within.add_outside.Goals as goal
 
 pub loop-atom-preserved : goal.loop-atom-preserved
@@ -12,13 +12,12 @@ loop-atom-preserved c =
     let set = c.args.set.now in
     let atom = c.loop-atom.atom in
     let first : 1 ≤ atom = c.loop-atom.auto.atom in
-    let next : atom - 1 + 1 ≡ atom + 1 - 1 = omega (arith, first) in
     subst
     (λ n. Gains c.args.store.now c.add_if_outside.new.store
     (cleaned
     (map (λ one. alone (negative one))
     (filter (λ one. not (has set one)) (take n (atoms_of_normal normal))))))
-    next
+    (next_place atom first)
     (kept_more (λ one. alone (negative one)) (λ one. not (has set one)) c.args.store.now
     c.loop-atom.store c.add_if_outside.new.store (atoms_of_normal normal) (atom - 1) atom
     (atom_at normal.atoms atom first (omega (arith, c.loop-atom-test.true))) c.loop-atom.invariant
@@ -40,11 +39,9 @@ pub returns : goal.returns
 returns c =
     let normal = c.args.normal.now in
     let set = c.args.set.now in
-    let all : take (c.loop-atom.atom - 1) (atoms_of_normal normal) ≡ atoms_of_normal normal =
-    take_all (c.loop-atom.atom - 1) (atoms_of_normal normal)
-    (omega (arith, length-numbers 1 normal.atoms, c.loop-atom-test.false)) in
     subst
     (λ atoms. Gains c.args.store.now c.loop-atom.store
     (cleaned
-    (map (λ one. alone (negative one)) (filter (λ one. not (has set one)) atoms)))) all
+    (map (λ one. alone (negative one)) (filter (λ one. not (has set one)) atoms))))
+    (all_numbers normal.atoms c.loop-atom.atom (omega (arith, c.loop-atom-test.false)))
     c.loop-atom.invariant
