@@ -5,14 +5,9 @@ ghost use Rattle.normal_program.specs.Clauses.{cleaned};
 ghost use Rattle.normal_program.specs.Range.{IsInRange};
 ghost use Rattle.completion.specs.Filling.{Adds, IsVar};
 
-<<<<<<< HEAD
-use crate::draft::Draft;
-=======
 use crate::draft::{Added, Draft};
->>>>>>> 7b821a7
 use clause_store::{Store, Var};
 use ground_program::Kind;
-use item_list::NoMemory;
 use normal_program::{Normal, NormalRule};
 
 /// Adds the clauses of all rules that aren't choice rules.

@@ -4,15 +4,8 @@ ghost use Rattle.clause_store.specs.Clause.{variable};
 ghost use Rattle.normal_program.specs.Clauses.{positive, negative, alone, cleaned};
 ghost use Rattle.completion.specs.Filling.{Adds, IsVar};
 
-<<<<<<< HEAD
-use crate::draft::Draft;
-use clause_store::{Lit, Store, Var};
-use item_list::NoMemory;
-use std::alloc::Global;
-=======
 use crate::draft::{Added, Draft};
 use clause_store::{Lit, Store, Var};
->>>>>>> 7b821a7
 
 /// Adds the clause of one literal.
 pub fn add_alone(draft: &mut Draft, store: &mut Store, lit: Lit) -> Added

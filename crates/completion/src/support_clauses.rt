@@ -8,14 +8,9 @@ ghost use Rattle.normal_program.specs.Range.{IsInRange};
 ghost use Rattle.completion.specs.Filling.{Adds, IsVar};
 ghost use Rattle.completion.specs.Rows.{rows_of, AreSupports, NotesAll};
 
-<<<<<<< HEAD
-use crate::draft::Draft;
-use clause_store::{Lit, Store, Var};
-use item_list::NoMemory;
-=======
 use crate::draft::{Added, Draft};
 use clause_store::{Lit, Store, Var};
->>>>>>> 7b821a7
+use item_list::NoMemory;
 use normal_program::{Normal, NormalRule};
 use std::alloc::Global;
 
