@@ -23,7 +23,7 @@ use Rattle.weight_propagator.specs.Gives.GivesBy.{reached, missed, needs, refuse
 use Rattle.weight_propagator.specs.Rows.{term_value, all_sum, yes_sum, not_no_sum}
 use Rattle.weight_propagator.specs.Rows.{IsSized, is_on, is_extra, is_taken, taken_sum}
 use Rattle.weight_propagator.specs.Rows.{IsCause}
-use Rattle.weight_propagator.proofs.TruthLemmas.{variable-positive, variable-negative}
+use Rattle.normal_program.proofs.lemmas.Base.TruthLemmas.{variable-positive, variable-negative}
 
 -- ---- sums
 

@@ -26,8 +26,8 @@ use Rattle.weight_propagator.specs.Weighed.{IsFalseButOne}
 use Rattle.weight_propagator.specs.Rows.{all_sum, IsRow, is_on, is_extra, denial, head, is_taken}
 use Rattle.weight_propagator.specs.Rows.{side_weight, side_sum, goal_of, IsReason}
 use Rattle.weight_propagator.specs.Rows.{IsCause, MeansRow, IsGivenBy}
-use Rattle.weight_propagator.proofs.TruthLemmas.{variable-positive, variable-negative}
-use Rattle.weight_propagator.proofs.TruthLemmas.{makes_true-positive, makes_true-negative}
+use Rattle.normal_program.proofs.lemmas.Base.TruthLemmas.{variable-positive, variable-negative}
+use Rattle.normal_program.proofs.lemmas.Base.TruthLemmas.{makes_true-positive, makes_true-negative}
 use Rattle.weight_propagator.proofs.ValueLemmas.{or_cases, unset_same, is_that, variable-denial}
 
 -- ---- lists

@@ -24,7 +24,8 @@ use Rattle.weight_propagator.specs.Weighed.{FollowsFor}
 use Rattle.weight_propagator.specs.Rows.{side_weight, side_sum, MeansRow, is_kept}
 use Rattle.weight_propagator.specs.Rows.{weight_if, given_weight, term_of, kept_terms, given_sum}
 use Rattle.weight_propagator.specs.Rows.{IsRowOf}
-use Rattle.weight_propagator.proofs.TruthLemmas.{makes_true-literal_of, variable-literal_of}
+use Rattle.normal_program.proofs.lemmas.Base.TruthLemmas.{makes_true-literal_of}
+use Rattle.normal_program.proofs.lemmas.Base.TruthLemmas.{variable-literal_of}
 use Rattle.weight_propagator.proofs.BodyLemmas.{IsFit, normal_body}
 use Rattle.weight_propagator.proofs.KeptLemmas.{kept_sum, kept_from}
 

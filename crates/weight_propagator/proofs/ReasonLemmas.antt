@@ -18,7 +18,8 @@ use Rattle.weight_propagator.specs.declared.side.Side.{Side}
 use Rattle.weight_propagator.specs.declared.side.Side.TheVariants.{Reached, Missed}
 use Rattle.weight_propagator.specs.Rows.{is_taken, denial, taken_sum, side_weight, side_sum}
 use Rattle.weight_propagator.specs.Rows.{IsReason}
-use Rattle.weight_propagator.proofs.TruthLemmas.{makes_true-negation, not_false}
+use Rattle.normal_program.proofs.lemmas.Base.TruthLemmas.{makes_true-negation}
+use Rattle.weight_propagator.proofs.TruthLemmas.{not_false}
 use Rattle.weight_propagator.proofs.ValueLemmas.{taken_same, variable-denial}
 
 pub All-front : {X : Type 0} (P : X → Type 0) (xs ys : List X) → All P (xs ++ ys) → All P xs

@@ -31,7 +31,7 @@ use Rattle.weight_propagator.specs.Weighed.{IsGiven}
 use Rattle.weight_propagator.specs.Rows.{all_sum, RowGives, IsRow, IsGivenBy, is_kept}
 use Rattle.weight_propagator.specs.Rows.{given_weight, term_of, kept_terms, given_sum}
 use Rattle.weight_propagator.specs.Rows.{IsRowOf, IsRowIn, AreRowsTo, AreRows}
-use Rattle.weight_propagator.proofs.TruthLemmas.{variable-literal_of}
+use Rattle.normal_program.proofs.lemmas.Base.TruthLemmas.{variable-literal_of}
 use Rattle.weight_propagator.proofs.GivenLemmas.{all_pairs_cons}
 use Rattle.weight_propagator.proofs.BodyLemmas.{IsFit, normal_body}
 use Rattle.weight_propagator.proofs.CaseLemmas.{sum_by-below}
