@@ -1,7 +1,8 @@
 -- A trail is the list of its assignments in order. What its calls answer are functions of that
 -- list.
 use Rattle.std.specs.Prelude.{◌≡◌, ◌≢◌, ◌≤◌, ◌+◌, ◌*◌, ◌==◌, ℕ, Bool, true, false, max, map, filter}
-use Rattle.std.specs.Prelude.{nat_le, if◌then◌else◌, List, [], ◌∷◌, take, find, position, slice_get}
+use Rattle.std.specs.Prelude.{nat_le, if◌then◌else◌, List, [], ◌∷◌, ◌++◌, take, find, position}
+use Rattle.std.specs.Prelude.{slice_get}
 use Rattle.std.specs.Prelude.{All, AllPairs, Contains, Option, None, Some, option_map}
 use Rattle.std.specs.Prelude.{option_and_then, IsSome, ⊤}
 use Rattle.std.specs.List.{range_with_len}
@@ -16,6 +17,13 @@ use Rattle.clause_store.specs.Clause.{variable, IsOver}
 pub record Assigned : Type 0 where
   pub vars : ℕ
   pub steps : List Step
+
+-- the trail with this assignment put last
+abbrev pub with_last : Assigned → Lit → Option ClauseRef → ℕ → Assigned
+with_last trail lit reason level =
+    record trail {
+      steps = trail.steps ++ record { lit = lit; reason = reason; level = level } ∷ [];
+    }
 
 -- the assignment of a variable, if it has one
 abbrev pub step_of : List Step → ℕ → Option Step

@@ -6,7 +6,7 @@ ghost use Rattle.std.specs.Prelude.{IfOk, IsTrue, ◌↔◌};
 ghost use Rattle.clause_store.specs.Clause.{IsOver};
 ghost use Rattle.clause_store.specs.Trail.{IsTrail, IsTrailOf, IsReasonFor, StaysTrail, step_of};
 ghost use Rattle.clause_store.specs.Trail.{place_of, value_of, reason_of, level_of, present_level};
-ghost use Rattle.clause_store.specs.Trail.{next_level, up_to};
+ghost use Rattle.clause_store.specs.Trail.{next_level, up_to, with_last};
 ghost use Rattle.clause_store.specs.Standing.{GoesBack};
 ghost use Rattle.clause_store.specs.Arrays.{IsWithoutLast};
 
@@ -157,16 +157,7 @@ impl Trail {
         requires over { IsOver self.old.vars lit }
         requires unset { value_of self.old.steps lit ≡ Value.Unset }
         ensures steps { self.new
-            ≡ record self.old {
-              steps =
-                  self.old.steps
-                  ++ record {
-                    lit = lit;
-                    reason = None;
-                    level =
-                        present_level self.old.steps + 1;
-                  } ∷ [];
-            } }
+            ≡ with_last self.old lit None (present_level self.old.steps + 1) }
         ensures trail { IsTrail self.new }
         ensures stays { StaysTrail self.old.steps self.new.steps }
     {
@@ -186,16 +177,7 @@ impl Trail {
         requires forced { IsReasonFor store.now self.old.steps lit why }
         requires of_store { IsTrailOf self.old.steps store.now }
         ensures steps { self.new
-            ≡ record self.old {
-              steps =
-                  self.old.steps
-                  ++ record {
-                    lit = lit;
-                    reason = Some why;
-                    level =
-                        present_level self.old.steps;
-                  } ∷ [];
-            } }
+            ≡ with_last self.old lit (Some why) (present_level self.old.steps) }
         ensures trail { IsTrail self.new }
         ensures of_store { IsTrailOf self.new.steps store.now }
     {

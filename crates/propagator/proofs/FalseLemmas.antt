@@ -24,6 +24,7 @@ negations_true steps clause lit wrong =
     (λ k d within. no_negated steps (get_or (others clause lit) k d)
     (All-filter (λ other. not (eqb other.0 lit.0)) (IsFalse steps) clause wrong k d within))
 
+-- no false clause is absorbed at a fixpoint
 pub fixpoint_absorbs_no_false : FixpointAbsorbsNoFalse
 fixpoint_absorbs_no_false trail clauses [] is fixpoint some wrong absorbed =
     absurd (omega (arith, some))

@@ -5,7 +5,7 @@ ghost use Rattle.std.specs.Prelude.{false, true, IfOk, OnOk, OnErr, IfSome, IfNo
 ghost use Rattle.clause_store.specs.Clause.{AreOver, IsClause, IsOver};
 ghost use Rattle.clause_store.specs.Standing.{IsConflict};
 ghost use Rattle.clause_store.specs.Trail.{IsReasonFor, IsTrail, IsTrailOf, present_level, up_to};
-ghost use Rattle.clause_store.specs.Trail.{value_of};
+ghost use Rattle.clause_store.specs.Trail.{value_of, with_last};
 ghost use Rattle.propagator.specs.Fixpoint.{Extends, IsFixpoint};
 
 use crate::attaching::attach_all;
@@ -130,20 +130,9 @@ impl SearchState {
         requires alive { self.old.dead ≡ false }
         requires over { IsOver self.old.trail.vars lit }
         requires unset { value_of self.old.trail.steps lit ≡ Value.Unset }
-        ensures { self.new
-            ≡ record self.old {
-              trail =
-                  record self.old.trail {
-                    steps =
-                        self.old.trail.steps
-                        ++ record {
-                          lit = lit;
-                          reason = None;
-                          level =
-                              present_level self.old.trail.steps + 1;
-                        } ∷ [];
-                  };
-            } }
+        ensures { self.new ≡ record self.old {
+          trail = with_last self.old.trail lit None (present_level self.old.trail.steps + 1);
+        } }
     {
         self.trail.decide(lit);
     }
@@ -154,20 +143,9 @@ impl SearchState {
         requires over { IsOver self.old.trail.vars lit }
         requires unset { value_of self.old.trail.steps lit ≡ Value.Unset }
         requires forced { IsReasonFor self.old.clauses self.old.trail.steps lit why }
-        ensures { self.new
-            ≡ record self.old {
-              trail =
-                  record self.old.trail {
-                    steps =
-                        self.old.trail.steps
-                        ++ record {
-                          lit = lit;
-                          reason = Some why;
-                          level =
-                              present_level self.old.trail.steps;
-                        } ∷ [];
-                  };
-            } }
+        ensures { self.new ≡ record self.old {
+          trail = with_last self.old.trail lit (Some why) (present_level self.old.trail.steps);
+        } }
     {
         self.trail.assign(&self.store, lit, why);
     }
