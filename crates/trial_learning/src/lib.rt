@@ -18,5 +18,7 @@ mod tests;
 mod unit_checks;
 #[cfg(test)]
 mod unit_scenes;
+#[cfg(test)]
+mod whole_way;
 
 pub use search::{Answer, Search};

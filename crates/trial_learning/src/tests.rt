@@ -9,7 +9,7 @@ use crate::all_assignments::is_right;
 use crate::random::{Draws, clause_of, lits_of, random_clause, random_lits};
 use crate::search::{Answer, Search};
 use crate::unit_checks::are_confirmed;
-use crate::{propagation_scenes, store_scenes, unit_scenes};
+use crate::{propagation_scenes, store_scenes, unit_scenes, whole_way};
 use clause_store::{Lit, Store};
 use conflict_learning::Learned;
 use item_list::NoMemory;
@@ -362,5 +362,11 @@ fn values_are_small(rt: HostRuntime) -> Result<(), Fail> {
 #[test]
 fn units_are_told_from_others(rt: HostRuntime) -> Result<(), Fail> {
     assert_eq!(rt; unit_scenes::wrongly_told(rt.alloc())?, None);
+    Ok(())
+}
+
+#[test]
+fn a_text_teaches_a_clause(rt: HostRuntime) -> Result<(), Fail> {
+    assert!(rt; whole_way::a_text_teaches_a_clause(rt.alloc())?);
     Ok(())
 }
