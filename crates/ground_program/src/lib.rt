@@ -7,8 +7,6 @@ mod laws;
 mod meaning;
 mod pair;
 mod program;
-#[cfg(test)]
-mod tests;
 mod validity;
 
 pub use body::Body;
@@ -23,4 +21,4 @@ pub use program::{
     AtomLit, Atoms, Bits, Broken, Kind, Mode, Name, Named, Names, Pairs, Program, Rule, Rules, Set,
     Sets, Weighted,
 };
-pub use validity::is_valid;
+pub use validity::{greatest_atom, is_valid};
