@@ -23,4 +23,4 @@ pub use program::{
     AtomLit, Atoms, Bits, Broken, Kind, Mode, Name, Named, Names, Pairs, Program, Rule, Rules, Set,
     Sets, Weighted,
 };
-pub use validity::is_valid;
+pub use validity::{greatest_atom, is_valid};

@@ -61,8 +61,8 @@ fn is_short(items: usize) -> bool
     items <= MOST as usize
 }
 
-/// The greatest atom that occurs in the program, or 0.
-fn greatest_atom(program: &Program) -> u32
+/// The greatest atom that occurs in the rules, the symbol table and the compute statement, or 0.
+pub fn greatest_atom(program: &Program) -> u32
     ensures { result ≡ greatest (atoms_of program.now) }
 {
     let rules = greatest_in_rules(program.rules.as_slice());

@@ -4,7 +4,6 @@
 
 mod compute_text;
 mod fault;
-mod greatest;
 mod printing;
 mod rule_text;
 mod source_text;

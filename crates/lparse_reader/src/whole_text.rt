@@ -11,11 +11,10 @@ ghost use Rattle.lparse_reader.specs.Refusal.{IsReadAnswer, IsProgramUnlessNoMem
 
 use crate::compute_text::read_atoms_to_end;
 use crate::fault::{Fault, ReadError, Stop, TextFault};
-use crate::greatest::{greatest_of, greatest_of_names, greatest_of_rules};
 use crate::rule_text::read_rules;
 use crate::symbol_text::read_names;
 use crate::token_text::{read_end, read_mark, read_models};
-use ground_program::{Atoms, Names, Program, Rules};
+use ground_program::{Atoms, Names, Program, Rules, greatest_atom};
 use std::alloc::Global;
 
 /// The program of a text, or the first thing that is wrong with it.
@@ -96,16 +95,14 @@ fn read_fields(alloc: Global, bytes: &[u8]) -> Result<Program, Stop>
 fn made_of(rules: Rules, names: Names, must: Atoms, must_not: Atoms, models: u32) -> Program
     ensures { result ≡ made rules names must must_not models }
 {
-    let atoms = greatest_of_rules(rules.as_slice());
-    let atoms = greatest_of_names(atoms, names.as_slice());
-    let atoms = greatest_of(atoms, must.as_slice());
-    let atoms = greatest_of(atoms, must_not.as_slice());
-    Program {
-        atoms,
+    let mut program = Program {
+        atoms: 0,
         rules,
         names,
         must,
         must_not,
         models,
-    }
+    };
+    program.atoms = greatest_atom(&program);
+    program
 }

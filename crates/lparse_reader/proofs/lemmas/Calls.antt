@@ -1,5 +1,4 @@
 -- What the loops and the answers of the reader carry.
 pub mod LoopLemmas
-pub mod GreatestLemmas
 pub mod ParseLemmas
 pub mod SourceLemmas
