@@ -7,8 +7,6 @@ mod laws;
 mod meaning;
 mod pair;
 mod program;
-#[cfg(test)]
-mod tests;
 mod validity;
 
 pub use body::Body;

@@ -6,8 +6,6 @@ mod definite;
 mod laws;
 mod membership;
 mod rounds;
-#[cfg(test)]
-mod tests;
 
 pub use definite::first_other_rule;
 pub use laws::{consequences_are_in_set, no_answer_set};

@@ -4,7 +4,5 @@
 
 mod definition;
 mod subsets;
-#[cfg(test)]
-mod tests;
 
 pub use definition::is_answer_set;
