@@ -5,7 +5,7 @@ ghost use Rattle.clause_store.specs.Clause.{variable};
 ghost use Rattle.normal_program.specs.Clauses.{positive, negative, support_clause, atoms_of_normal};
 ghost use Rattle.normal_program.specs.Clauses.{cleaned};
 ghost use Rattle.normal_program.specs.Range.{IsInRange};
-ghost use Rattle.completion.specs.Filling.{Adds, IsVar};
+ghost use Rattle.completion.specs.Filling.{Adds, IsVar, supports_of};
 ghost use Rattle.completion.specs.Chains.{note_of, IsChain, HasChain, AreSupports, Puts};
 ghost use Rattle.completion.specs.Chains.{NotesAll};
 
@@ -58,9 +58,7 @@ fn add_support_of(
     requires last { atom ≤ normal.now.atoms }
     ensures { Adds result store.old store.new (cleaned (support_clause normal.now atom ∷ [])) }
 {
-    let last = supports.lasts[atom as usize];
-    read_back(bodies, supports.notes.as_slice(), last)?;
-    bodies.reverse();
+    read_bodies(normal, supports, bodies, atom)?;
     add_support(draft, store, atom, bodies.as_slice())
 }
 
@@ -75,6 +73,23 @@ fn add_support(draft: &mut Draft, store: &mut Store, atom: u32, bodies: &[Lit]) 
         draft.push(*body)?;
     }
     draft.add_to(store)
+}
+
+// Reads the bodies of the rules for an atom.
+fn read_bodies(
+    normal: &Normal,
+    supports: &Supports,
+    bodies: &mut Vec<Lit>,
+    atom: u32,
+) -> Result<(), NoMemory>
+    requires supports { AreSupports normal.now normal.now.rules supports.now }
+    requires last { atom ≤ normal.now.atoms }
+    ensures { OnOk result (bodies.new.items ≡ supports_of normal.now normal.now.rules atom) }
+{
+    let last = supports.lasts[atom as usize];
+    read_back(bodies, supports.notes.as_slice(), last)?;
+    bodies.reverse();
+    Ok(())
 }
 
 // Reads a chain of notes, from its last one back.
