@@ -3,6 +3,7 @@ pub mod DraftLemmas
 pub mod AddsLemmas
 pub mod GainLemmas
 pub mod RowLemmas
+pub mod ChainLemmas
 pub mod InnerLemmas
 pub mod PartLemmas
 pub mod SmallerLemmas

@@ -1,4 +1,4 @@
--- The rows in which the bodies of rules are gathered, and that they make the support clauses.
+-- The bodies of the rules for atoms make their support clauses.
 use Rattle.std.proofs.Common.{◌≡◌, ◌≤◌, ◌<◌, ◌+◌, ◌-◌, ℕ, zero, suc, Bool, true, false, cond, eqb}
 use Rattle.std.proofs.Common.{List, take, take_all}
 use Rattle.std.proofs.Common.{[], ◌∷◌, ◌++◌, length, length-set, get_or, get_or-set_same}
@@ -22,78 +22,9 @@ use Rattle.normal_program.specs.Normal.{body_var}
 use Rattle.normal_program.specs.Clauses.{positive, negative, is_lit, has_lit, has_atom, each_once}
 use Rattle.normal_program.specs.Clauses.{is_tautology, cleaned, support_clause, numbers_from}
 use Rattle.completion.specs.Filling.{supports_of}
-use Rattle.completion.specs.Rows.{rows_of, AreSupports, NotesAll}
 use Rattle.completion.proofs.AddLemmas.{each_once-push, cleaned-one}
 use Rattle.normal_program.proofs.lemmas.Base.CleanLemmas.{once_has}
 use Rattle.normal_program.proofs.lemmas.Base.TruthLemmas.{variable-positive}
-
--- no head yet
-pub NotesAll-none : (lit : Lit) (rows : List (List Lit)) → NotesAll [] lit rows rows
-NotesAll-none lit rows =
-    record { count = refl; each = λ atom. sym (append-nil (get_or rows atom [])) }
-
--- one more head
-pub NotesAll-more : (heads : List ℕ) (head : ℕ) (lit : Lit) (old mid new : List (List Lit))
-    → NotesAll heads lit old mid → head < length mid
-    → new ≡ slice_set mid head (get_or mid head [] ++ lit ∷ [])
-    → NotesAll (heads ++ head ∷ []) lit old new
-NotesAll-more heads head lit old mid new notes within written = record {
-  count = ap length written ∙ length-set mid head (get_or mid head [] ++ lit ∷ []) ∙ notes.count;
-  each = λ atom.
-      let names : List Lit = map (λ one. lit) (filter (λ one. eqb one atom) heads) in
-      let more : map (λ one. lit) (filter (λ one. eqb one atom) (heads ++ head ∷ []))
-      ≡ map (λ one. lit) (filter (λ one. eqb one atom) heads)
-      ++ map (λ one. lit) (filter (λ one. eqb one atom) (head ∷ [])) =
-      ap (map (λ one. lit)) (filter-append (λ one. eqb one atom) heads (head ∷ []))
-      ∙ map-append (λ one. lit) (filter (λ one. eqb one atom) heads)
-      (filter (λ one. eqb one atom) (head ∷ [])) in
-      ⊎_elim
-      (λ same.
-      let mine : map (λ one. lit) (filter (λ one. eqb one atom) (head ∷ [])) ≡ lit ∷ [] =
-      ap (λ b. map (λ one. lit) (cond b (head ∷ []) [])) (eq-eqb head atom same) in
-      ap (λ rows. get_or rows atom []) written
-      ∙ ap (λ a. get_or (slice_set mid head (get_or mid head [] ++ lit ∷ [])) a []) (sym same)
-      ∙ get_or-set_same mid head (get_or mid head [] ++ lit ∷ []) [] within
-      ∙ ap (λ a. get_or mid a [] ++ lit ∷ []) same
-      ∙ ap (λ row. row ++ lit ∷ []) (notes.each atom)
-      ∙ append_assoc (get_or old atom []) names (lit ∷ [])
-      ∙ ap (λ l. get_or old atom [] ++ l) (sym (more ∙ ap (λ l. names ++ l) mine)))
-      (λ other.
-      let none : map (λ one. lit) (filter (λ one. eqb one atom) (head ∷ [])) ≡ [] =
-      ap (λ b. map (λ one. lit) (cond b (head ∷ []) [])) (ne_eqb head atom other) in
-      ap (λ rows. get_or rows atom []) written
-      ∙ get_or-set_other mid head atom (get_or mid head [] ++ lit ∷ []) [] (λ e. other (sym e))
-      ∙ notes.each atom ∙ ap (λ l. get_or old atom [] ++ l)
-      (sym (more ∙ ap (λ l. names ++ l) none ∙ append-nil names)))
-      (cases_eq head atom);
-}
-
--- no rule yet
-pub AreSupports-none : (normal : Normal) (rows : List (List Lit))
-    → rows ≡ replicate (normal.atoms + 1) [] → AreSupports normal [] rows
-AreSupports-none normal rows empty = record {
-  count = ap length empty ∙ length-replicate (normal.atoms + 1) [];
-  each =
-      λ atom low. ap (λ l. get_or l atom []) empty
-      ∙ get_or-replicate (normal.atoms + 1) atom [] [] (omega (arith, low));
-}
-
--- one more rule
-pub AreSupports-more : (normal : Normal) (rules : List NormalRule) (rule : NormalRule)
-    (rows new : List (List Lit)) → AreSupports normal rules rows
-    → NotesAll rule.heads (positive (body_var normal rule.body)) rows new
-    → AreSupports normal (rules ++ rule ∷ []) new
-AreSupports-more normal rules rule rows new supports notes = record {
-  count = notes.count ∙ supports.count;
-  each = λ atom low.
-      let row : NormalRule → List Lit =
-      λ one. map (λ head. positive (body_var normal one.body))
-      (filter (λ head. eqb head atom) one.heads) in
-      notes.each atom ∙ ap (λ l. l ++ row rule) (supports.each atom low)
-      ∙ sym
-      (flat_map-append row rules (rule ∷ [])
-      ∙ ap (λ l. flat_map row rules ++ l) (append-nil (row rule)));
-}
 
 -- the literals of rows have variables
 pub supports-vars : (normal : Normal) (rules : List NormalRule) (atom : ℕ)
@@ -301,19 +232,3 @@ pub all_numbers : (count atom : ℕ) → count + 1 ≤ atom
     → take (atom - 1) (numbers_from 1 count) ≡ numbers_from 1 count
 all_numbers count atom past =
     take_all (atom - 1) (numbers_from 1 count) (omega (arith, length-numbers 1 count, past))
-
--- what is read at a place of the rows
-pub row_read : (normal : Normal) (rows : Vec (Vec Lit Global) Global) (atom : ℕ)
-    (row : Vec Lit Global) → AreSupports normal normal.rules (rows_of rows) → atom ≤ normal.atoms
-    → row ≡ get_or rows.items atom row → row.items ≡ supports_of normal normal.rules atom
-row_read normal rows atom row supports last here =
-    let inside : atom < length rows.items =
-    omega (
-      arith,
-      supports.count,
-      length-map rows.items (λ (one : Vec Lit Global). one.items),
-      last,
-    ) in
-    ap (λ (one : Vec Lit Global). one.items) here
-    ∙ sym (get_or-map (λ (one : Vec Lit Global). one.items) rows.items atom row [] inside)
-    ∙ supports.each atom last

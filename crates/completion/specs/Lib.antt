@@ -1,4 +1,4 @@
 pub mod Filling
 pub mod Drafts
-pub mod Rows
+pub mod Chains
 pub mod Within

@@ -6,8 +6,9 @@ use Rattle.clause_store.proofs.LiteralLemmas.{lit_of_code}
 use Rattle.normal_program.specs.declared.normal.NormalRule.{NormalRule}
 use Rattle.normal_program.specs.Normal.{body_var}
 use Rattle.normal_program.specs.Clauses.{positive}
-use Rattle.completion.specs.Rows.{rows_of, AreSupports, NotesAll}
-use Rattle.completion.proofs.RowLemmas.{AreSupports-more}
+use Rattle.completion.specs.Chains.{AreSupports, NotesAll}
+use Rattle.completion.proofs.AddsLemmas.{item_of}
+use Rattle.completion.proofs.ChainLemmas.{AreSupports-more}
 use Rattle.completion.proofs.support_clauses.gather.Goals as goal
 
 pub loop-rule-preserved : goal.loop-rule-preserved
@@ -15,24 +16,17 @@ loop-rule-preserved c =
     let normal = c.args.normal.now in
     let at = c.loop-rule.rule-index in
     let rule = c.rule-item.result in
-    let same = c.as_slice-rule-items.ensures in
-    let within : at < length normal.rules =
-    subst (λ (rules : List NormalRule). at < length rules) same c.loop-rule-test.true in
-    let here : rule ≡ get_or normal.rules at rule =
-    c.rule-item.is ∙ ap (λ (rules : List NormalRule). get_or rules at rule) same in
-    let lit : c.positive.result ≡ positive (body_var normal rule.body) =
-    lit_of_code c.positive.result (positive (body_var normal rule.body)) c.positive.ensures in
-    let notes : NotesAll rule.heads (positive (body_var normal rule.body))
-    (rows_of c.loop-rule.rows)
-    (rows_of c.note.new.rows) =
-    subst
-    (λ (one : Lit). NotesAll rule.heads one (rows_of c.loop-rule.rows) (rows_of c.note.new.rows))
-    lit
-    c.in_ok-note.ensures in
-    subst (λ rules. AreSupports normal rules (rows_of c.note.new.rows))
+    let item =
+    item_of c.as_slice-rule-items.result.now normal.rules at rule c.as_slice-rule-items.ensures
+    c.loop-rule-test.true c.rule-item.is in
+    let old = c.loop-rule.supports in
+    let new = c.note_all.new.supports in
+    let notes : NotesAll rule.heads (positive (body_var normal rule.body)) old new =
+    subst (λ (one : Lit). NotesAll rule.heads one old new)
+    (lit_of_code c.positive.result (positive (body_var normal rule.body)) c.positive.ensures)
+    c.in_ok-note_all.ensures in
+    subst (λ rules. AreSupports normal rules new)
     (sym
-    (take_more normal.rules at rule within
-    ∙ ap (λ one. take at normal.rules ++ one ∷ []) (sym here)))
-    (AreSupports-more normal (take at normal.rules) rule (rows_of c.loop-rule.rows)
-    (rows_of c.note.new.rows)
-    c.loop-rule.invariant notes)
+    (take_more normal.rules at rule item.0
+    ∙ ap (λ one. take at normal.rules ++ one ∷ []) (sym item.1)))
+    (AreSupports-more normal (take at normal.rules) rule old new c.loop-rule.invariant notes)
