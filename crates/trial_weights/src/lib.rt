@@ -3,8 +3,4 @@
 #![tactic(auto)]
 
 #[cfg(test)]
-mod plain;
-#[cfg(test)]
-mod scene;
-#[cfg(test)]
-mod tests;
+mod trials;

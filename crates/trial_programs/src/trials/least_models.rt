@@ -141,7 +141,8 @@ fn definite_rule(alloc: Global, head: u32, atoms: &[u32]) -> Result<Rule, NoMemo
     })
 }
 
-/// The kinds of three rules and whether their literal is negated, and the first that isn't definite.
+/// The kinds of three rules and whether their literal is negated, and the first that isn't
+/// definite.
 const OTHERS: [([(Kind, bool); 3], Option<u32>); 4] = [
     (
         [

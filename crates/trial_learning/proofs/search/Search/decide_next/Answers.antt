@@ -15,5 +15,6 @@ returns-in-Some-clause-on c =
 pub returns-in-None-clause-answer : goal.returns-in-None-clause-answer
 returns-in-None-clause-answer c =
     is_model c.args.self.now.state.trail c.args.self.now.state.clauses c.args.assumed.now
-    (subst IsTotal c.trail.ensures.trail c.in-None.ensures.none) c.vouch.ensures.over c.requires.fixpoint c.requires.over
+    (subst IsTotal c.trail.ensures.trail c.in-None.ensures.none) c.vouch.ensures.over
+    c.requires.fixpoint c.requires.over
     c.requires.assumed

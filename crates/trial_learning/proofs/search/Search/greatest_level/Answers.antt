@@ -10,5 +10,6 @@ returns c lits named =
     ∙ ap (λ trail. greatest_level trail.steps c.lits-lits.result.now) c.trail.ensures.trail
     ∙ ap (greatest_level c.args.self.now.state.trail.steps)
     (same_Some c.lits-lits.result.now lits
-    (sym c.lits-lits.ensures.lits ∙ ap (λ clauses. slice_get clauses c.args.at.0) c.store.ensures.store
+    (sym c.lits-lits.ensures.lits ∙ ap (λ clauses. slice_get clauses c.args.at.0)
+    c.store.ensures.store
     ∙ named))

@@ -23,7 +23,8 @@ pub turns-preserved : goal.turns-preserved
 turns-preserved c = record {
   alive = c.in_ok-answer.ensures.alive;
   on =
-      goes_on c.args.assumed.now c.args.self.now.state.clauses c.turns.self.state.clauses c.turn.new.self.state.clauses
+      goes_on c.args.assumed.now c.args.self.now.state.clauses c.turns.self.state.clauses
+      c.turn.new.self.state.clauses
       c.args.self.now.state.trail c.turns.self.state.trail c.turn.new.self.state.trail
       c.turns.invariant.on c.in_ok-answer.ensures.on;
   first = c.in_ok-answer.ensures.on.first c.turns.invariant.first;
@@ -32,7 +33,8 @@ turns-preserved c = record {
 
 pub returns-in-Some-clause-answer : goal.returns-in-Some-clause-answer
 returns-in-Some-clause-answer c =
-    answer_before c.args.self.now.state.clauses c.turns.self.state.clauses c.args.assumed.now c.turn.new.self.state.trail
+    answer_before c.args.self.now.state.clauses c.turns.self.state.clauses c.args.assumed.now
+    c.turn.new.self.state.trail
     c.in-Some.answer c.turns.invariant.on.same
     (subst
     (λ found. IfSome found
@@ -41,13 +43,15 @@ returns-in-Some-clause-answer c =
 
 pub returns-in-Some-clause-units : goal.returns-in-Some-clause-units
 returns-in-Some-clause-units c =
-    (goes_on c.args.assumed.now c.args.self.now.state.clauses c.turns.self.state.clauses c.turn.new.self.state.clauses
+    (goes_on c.args.assumed.now c.args.self.now.state.clauses c.turns.self.state.clauses
+    c.turn.new.self.state.clauses
     c.args.self.now.state.trail c.turns.self.state.trail c.turn.new.self.state.trail
     c.turns.invariant.on c.in_ok-answer.ensures.on).units
 
 pub turns-smaller : goal.turns-smaller
 turns-smaller c =
-    fewer_turns c.saturating_add-full.result c.turns.self.state.clauses c.turn.new.self.state.clauses
+    fewer_turns c.saturating_add-full.result c.turns.self.state.clauses
+    c.turn.new.self.state.clauses
     c.turns.self.state.trail c.turn.new.self.state.trail
     (omega (
       arith,

@@ -1,7 +1,7 @@
 ghost use Rattle.trial_weights.specs.Ready.{IsReady};
 
-use crate::plain::{is_false_but_one, some_gives};
-use crate::scene::{Scene, normal_of};
+use crate::trials::plain::{is_false_but_one, some_gives};
+use crate::trials::scene::{Scene, normal_of};
 use clause_store::{Clause, Lit, Says};
 use item_list::NoMemory;
 use std::alloc::Global;

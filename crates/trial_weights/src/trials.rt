@@ -1,0 +1,4 @@
+// The tests, by what they are about.
+mod plain;
+mod scene;
+mod tests;
