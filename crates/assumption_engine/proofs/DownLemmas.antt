@@ -19,12 +19,13 @@ use Rattle.propagator.proofs.ExtendLemmas.{same_level}
 use Rattle.conflict_learning.specs.Analysis.{IsAsserting, greatest_level}
 use Rattle.conflict_learning.specs.declared.learned.Learned.{Learned}
 use Rattle.conflict_learning.proofs.UnitLemmas.{back_is_lower, learned_is_a_unit}
-use Rattle.assumption_engine.specs.Engine.{AreAssumedFirst, IsAsBelow, IsLearned, Taught, WentBack}
+use Rattle.assumption_engine.specs.Engine.{IsAsBelow, IsLearned, Taught, WentBack}
 use Rattle.assumption_engine.specs.Progress.{weight}
 use Rattle.assumption_engine.specs.declared.state.State.{State}
-use Rattle.assumption_engine.proofs.GoingLemmas.{first_after_back, first_extended}
 use Rattle.assumption_engine.proofs.ProgressLemmas.{weight_after_back}
-use Rattle.assumption_engine.proofs.StillLemmas.{value_stays}
+use Rattle.clause_store.proofs.lemmas.Trails.StillLemmas.{values_stay}
+use Rattle.search_state.specs.Assumed.{AreAssumedFirst}
+use Rattle.search_state.proofs.AssumedLemmas.{first_after_back, first_extended}
 
 -- ---- one conflict
 
@@ -109,8 +110,8 @@ learned_extended clauses more old new clause lit store extends is =
           (λ other no differs.
           let is_no = no differs in
           subst (λ steps. IsFalse steps other) (sym extends.steps)
-          (value_stays old.steps extends.added other (λ unset. no_and_unset other is_no unset)
-          ∙ is_no)) clause is.others;
+          ((values_stay old.steps extends.added other
+          (λ unset. no_and_unset other is_no unset)).value ∙ is_no)) clause is.others;
     }
   where
     no_and_unset : (other : Lit) → value_of old.steps other ≡ No → value_of old.steps other ≡ Unset

@@ -1,19 +1,15 @@
 -- How a search goes on: which decisions come first, and which clauses come.
-use Rattle.std.proofs.Common.{◌≡◌, ◌⊎◌, ℕ, zero, suc, ◌<◌, ◌≤◌, ◌+◌, List, [], ◌∷◌, ◌++◌, length}
-use Rattle.std.proofs.Common.{take, Some, None, refl, sym, ap, ◌∙◌, subst, inl, inr, arith}
-use Rattle.std.proofs.Common.{append_assoc, length-append}
-use Rattle.std.specs.Prelude.{All, Contains, slice_get, IsSome, Bool}
+use Rattle.std.proofs.Common.{◌≡◌, ◌+◌, List, [], ◌∷◌, ◌++◌}
+use Rattle.std.proofs.Common.{refl, sym, ap, ◌∙◌, subst, arith}
+use Rattle.std.proofs.Common.{append_assoc}
+use Rattle.std.specs.Prelude.{All, Contains, Bool}
 use Rattle.std.specs.Prelude.{Result, Ok, Err, OnOk, IfOk}
-use Rattle.std.proofs.lemmas.Bool.{cases_lt, false≢true}
-use Rattle.std.proofs.lemmas.List.{take-append-le, append-nil}
-use Rattle.std.proofs.Math.Seq.{take-append_seam}
-use Rattle.std.proofs.lemmas.List.Elements.{All-append, All-cons, All-head, All-nil, All-push}
-use Rattle.std.proofs.lemmas.List.Elements.{All-tail, All-weaker, All-contains_itself}
+use Rattle.std.proofs.lemmas.List.{append-nil}
+use Rattle.std.proofs.lemmas.List.Elements.{All-append, All-cons, All-nil, All-push}
+use Rattle.std.proofs.lemmas.List.Elements.{All-weaker, All-contains_itself}
 use Rattle.std.proofs.lemmas.List.Elements.{Contains-append_left}
 use Rattle.std.proofs.lemmas.List.Elements.{Contains-append_right}
-use Rattle.std.proofs.lemmas.Option.{same_Some, slice_get_within}
 use Rattle.clause_store.specs.declared.literal.Lit.{Lit}
-use Rattle.clause_store.specs.declared.step.Step.{Step}
 use Rattle.clause_store.specs.Clause.{HoldsIn, Meets}
 use Rattle.clause_store.specs.Counted.{Counted}
 use Rattle.clause_store.specs.Entailment.{AreUnits, IsUnit}
@@ -21,110 +17,18 @@ use Rattle.clause_store.specs.History.{Added, given, counted, added_clauses, cou
 use Rattle.clause_store.specs.History.{given_clauses, IsHistory, IsNewWork}
 use Rattle.clause_store.specs.Laws.{AreMoreClauses}
 use Rattle.clause_store.specs.Standing.{AreFollowed, Followed}
-use Rattle.clause_store.specs.Trail.{Assigned, IsTrail, RisesFrom, next_level, present_level, up_to}
-use Rattle.clause_store.proofs.BackLemmas.{front_after_back}
 use Rattle.clause_store.proofs.EntailmentLemmas.{refuted_follows}
 use Rattle.clause_store.proofs.LiteralLemmas.{all_through, has_first, has_later}
 use Rattle.clause_store.proofs.lemmas.Units.HistoryLemmas.{histories_add, histories_compose}
 use Rattle.clause_store.proofs.lemmas.Units.HistoryLemmas.{history_has_units}
-use Rattle.clause_store.proofs.ReasonLemmas.{slice_get-seam}
-use Rattle.clause_store.proofs.TrailLemmas.{slice_get-append}
 use Rattle.clause_store.proofs.lemmas.Units.UnitLemmas.{units_among_fewer, units_split}
-use Rattle.propagator.specs.Fixpoint.{Extends}
 use Rattle.propagator.specs.Watched.{IsReady}
 use Rattle.assumption_engine.specs.Theory.{Meaning, MeansTheSame}
-use Rattle.assumption_engine.specs.Engine.{AreAssumedFirst, AreTrue, GoesOn, HasCounted}
+use Rattle.assumption_engine.specs.Engine.{GoesOn, HasCounted}
 use Rattle.assumption_engine.specs.Engine.{IsModelOf, IsRight}
 use Rattle.assumption_engine.specs.declared.state.State.{State}
 use Rattle.assumption_engine.proofs.SameLemmas.{model_same}
-
--- ---- decisions
-
--- a trail of level 0 has no decision
-none_decided : (start : ℕ) (steps : List Step) (at : ℕ) (step : Step) → RisesFrom start steps
-    → present_level steps ≡ 0 → slice_get steps at ≡ Some step → step.reason ≡ None → ⊥
-none_decided start [] at step rises level here decided = absurd (cc)
-none_decided start (first ∷ rest) zero step rises level here decided =
-    let same : first ≡ step = same_Some first step here in
-    let high : first.level ≡ start + 1 =
-    rises.0 ∙ ap (next_level start) (ap (λ s. s.reason) same ∙ decided) in
-    absurd (omega arith)
-none_decided start (first ∷ rest) (suc at) step rises level here decided =
-    none_decided first.level rest at step rises.1 (omega arith) here decided
-
-pub first_at_start : (assumed : List Lit) (trail : Assigned) → IsTrail trail
-    → present_level trail.steps ≡ 0 → AreAssumedFirst assumed trail.steps
-first_at_start assumed trail is level at step here decided =
-    absurd (none_decided 0 trail.steps at step is.levels level here decided)
-
-first_of_front : (assumed : List Lit) (front rest : List Step)
-    → AreAssumedFirst assumed (front ++ rest) → AreAssumedFirst assumed front
-first_of_front assumed front rest first at step here decided =
-    let within : at < length front = slice_get_within front at step here in
-    let low : at ≤ length front = omega arith in
-    subst (λ before. Contains assumed step.lit ⊎ AreTrue before assumed)
-    (take-append-le at front rest low)
-    (first at step (slice_get-append front rest at step here) decided)
-
-front_at : (steps : List Step) (last : Step) (at : ℕ) (step : Step) → at < length steps
-    → slice_get (steps ++ last ∷ []) at ≡ Some step → slice_get steps at ≡ Some step
-front_at [] last at step within here = absurd (omega (arith, within))
-front_at (x ∷ steps) last zero step within here = here
-front_at (x ∷ steps) last (suc at) step within here =
-    front_at steps last at step (omega (arith, within)) here
-
--- an assignment comes last
-pub first_push : (assumed : List Lit) (steps : List Step) (last : Step)
-    → AreAssumedFirst assumed steps
-    → (last.reason ≡ None → Contains assumed last.lit ⊎ AreTrue steps assumed)
-    → AreAssumedFirst assumed (steps ++ last ∷ [])
-first_push assumed steps last first new at step here decided =
-    elim (cases_lt at (length steps)) [
-      | inl before ↦
-          let low : at ≤ length steps = omega arith in
-          subst (λ earlier. Contains assumed step.lit ⊎ AreTrue earlier assumed)
-          (sym (take-append-le at steps (last ∷ []) low))
-          (first at step (front_at steps last at step before here) decided)
-      | inr after ↦
-          let within : at < length (steps ++ last ∷ []) =
-          slice_get_within (steps ++ last ∷ []) at step here in
-          let end : at ≡ length steps = omega (arith, length-append steps (last ∷ [])) in
-          let is : last ≡ step =
-          same_Some last step
-          (sym (slice_get-seam steps last) ∙ ap (slice_get (steps ++ last ∷ [])) (sym end)
-          ∙ here) in
-          subst (λ s. Contains assumed s.lit ⊎ AreTrue (take at (steps ++ last ∷ [])) assumed) is
-          (subst (λ earlier. Contains assumed last.lit ⊎ AreTrue earlier assumed)
-          (sym (ap (λ n. take n (steps ++ last ∷ [])) end ∙ take-append_seam steps (last ∷ [])))
-          (new (ap (λ s. s.reason) is ∙ decided)))
-    ]
-
--- forced assignments come last
-first_with_forced : (assumed : List Lit) (steps added : List Step) → AreAssumedFirst assumed steps
-    → All (λ step. IsSome step.reason) added → AreAssumedFirst assumed (steps ++ added)
-first_with_forced assumed steps [] first forced =
-    subst (AreAssumedFirst assumed) (sym (append-nil steps)) first
-first_with_forced assumed steps (step ∷ rest) first forced =
-    subst (AreAssumedFirst assumed) (append_assoc steps (step ∷ []) rest)
-    (first_with_forced assumed (steps ++ step ∷ []) rest
-    (first_push assumed steps step first
-    (λ none. absurd
-    (false≢true (subst IsSome none (All-head (λ s. IsSome s.reason) step rest forced)))))
-    (All-tail (λ s. IsSome s.reason) step rest forced))
-
--- a front of the trail
-pub first_after_back : (assumed : List Lit) (trail : Assigned) (level : ℕ) → IsTrail trail
-    → AreAssumedFirst assumed trail.steps → AreAssumedFirst assumed (up_to level trail.steps)
-first_after_back assumed trail level is first =
-    let front = front_after_back trail level is in
-    first_of_front assumed (up_to level trail.steps) front.0
-    (subst (AreAssumedFirst assumed) front.1 first)
-
-pub first_extended : (assumed : List Lit) (old new : Assigned) → Extends old new
-    → AreAssumedFirst assumed old.steps → AreAssumedFirst assumed new.steps
-first_extended assumed old new is first =
-    subst (AreAssumedFirst assumed) (sym is.steps)
-    (first_with_forced assumed old.steps is.added first is.forced)
+use Rattle.search_state.specs.Assumed.{AreAssumedFirst}
 
 -- ---- going on
 

@@ -1,9 +1,9 @@
 -- What an engine keeps on its way.
-use Rattle.std.specs.Prelude.{◌≡◌, ◌≢◌, ◌≤◌, ◌<◌, ◌⊎◌, ◌++◌, ℕ, Bool, List, length, take, slice_get}
-use Rattle.std.specs.Prelude.{All, Contains, None, Some}
+use Rattle.std.specs.Prelude.{◌≡◌, ◌≢◌, ◌≤◌, ◌<◌, ◌++◌, ℕ, Bool, List, slice_get}
+use Rattle.std.specs.Prelude.{All, Contains, Some}
 use Rattle.clause_store.specs.declared.literal.Lit.{Lit}
 use Rattle.clause_store.specs.declared.literal.ClauseRef.{ClauseRef}
-use Rattle.clause_store.specs.declared.literal.Value.TheVariants.{Yes, Unset}
+use Rattle.clause_store.specs.declared.literal.Value.TheVariants.{Unset}
 use Rattle.clause_store.specs.declared.step.Step.{Step}
 use Rattle.clause_store.specs.Clause.{HasNoVariableTwice, IsOver, Meets}
 use Rattle.clause_store.specs.Counted.{Counted}
@@ -17,6 +17,7 @@ use Rattle.propagator.specs.Watched.{IsReady}
 use Rattle.assumption_engine.specs.Theory.{Meaning}
 use Rattle.clause_store.specs.History.{Added, added_clauses, counted_clauses, IsHistoryOf}
 use Rattle.assumption_engine.specs.declared.state.State.{State}
+use Rattle.search_state.specs.Assumed.{AreAssumedFirst}
 
 -- a model of an engine: one of the theory that meets the clause of each defined selector
 pub record IsModelOf (meaning : Meaning) (defined : List (List Lit)) (values : List Bool) :
@@ -33,23 +34,6 @@ pub record IsRight (meaning : Meaning) (followed : List Followed) (state : State
   pub kept : AreMoreClauses defined state.store
   pub range : meaning.greatest ≤ state.trail.vars
   pub follows : AreFollowed state.trail.steps followed
-
--- all literals are true
-abbrev pub AreTrue : List Step → List Lit → Type 0
-AreTrue steps lits = All (λ lit. value_of steps lit ≡ Yes) lits
-
--- the literal at a place isn't true
-pub record IsNotTrueAt (steps : List Step) (lits : List Lit) (at : ℕ) : Type 0 where
-  pub within : at < length lits
-  pub lit : Lit
-  pub there : slice_get lits at ≡ Some lit
-  pub not_true : value_of steps lit ≢ Yes
-
--- each decision is an assumed literal, or all of these were true before it
-abbrev pub AreAssumedFirst : List Lit → List Step → Type 0
-AreAssumedFirst assumed steps =
-    (at : ℕ) (step : Step) → slice_get steps at ≡ Some step → step.reason ≡ None
-    → Contains assumed step.lit ⊎ AreTrue (take at steps) assumed
 
 -- a search went on: clauses came that were counted or may be given, none of which those before
 -- absorb, and the assumed literals still come first

@@ -3,9 +3,10 @@ ghost use Rattle.std.specs.Prelude.{◌≡◌, ◌≢◌, ◌≤◌, ◌<◌, �
 ghost use Rattle.clause_store.specs.Clause.{IsOver};
 ghost use Rattle.propagator.specs.Fixpoint.{IsFixpoint};
 ghost use Rattle.assumption_engine.specs.Theory.{MeansTheSame};
-ghost use Rattle.assumption_engine.specs.Engine.{AreAssumedFirst, GoesOn, HasCounted, IsRight};
+ghost use Rattle.assumption_engine.specs.Engine.{GoesOn, HasCounted, IsRight};
 ghost use Rattle.assumption_engine.specs.Answer.{HasEnded, HasRoom};
 ghost use Rattle.assumption_engine.specs.Answer.{IsStop, IsTurn};
+ghost use Rattle.search_state.specs.Assumed.{AreAssumedFirst};
 
 use crate::answer::{Answer, Turn};
 use crate::engine::Engine;

@@ -4,18 +4,19 @@ ghost use Rattle.clause_store.specs.Clause.{IsOver};
 ghost use Rattle.clause_store.specs.Trail.{IsTotal, value_of};
 ghost use Rattle.propagator.specs.Fixpoint.{IsFixpoint};
 ghost use Rattle.assumption_engine.specs.Theory.{MeansTheSame};
-ghost use Rattle.assumption_engine.specs.Engine.{AreAssumedFirst, AreTrue, GoesOn, IsNotTrueAt};
+ghost use Rattle.assumption_engine.specs.Engine.{GoesOn};
 ghost use Rattle.assumption_engine.specs.Engine.{IsRight};
 ghost use Rattle.assumption_engine.specs.Answer.{HasRoom, IsTurn};
+ghost use Rattle.search_state.specs.Assumed.{AreTrue, IsNotTrueAt, AreAssumedFirst};
 
 use crate::answer::{Answer, Turn};
 use crate::check::Check;
 use crate::engine::Engine;
-use crate::next_decision::{first_not_true, least_unset};
 use crate::theory::Theory;
 use clause_store::{Budget, Clause, Lit, Value};
 use conflict_learning::final_core;
 use item_list::NoMemory;
+use search_state::{first_not_true, least_unset};
 use std::alloc::Global;
 
 impl<T: Theory> Engine<T> {

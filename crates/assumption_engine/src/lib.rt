@@ -9,7 +9,6 @@ mod deciding;
 mod engine;
 mod giving;
 mod learning;
-mod next_decision;
 mod state;
 mod theory;
 

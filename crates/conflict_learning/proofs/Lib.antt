@@ -7,3 +7,4 @@ pub mod LearnedLemmas
 pub mod CellLemmas
 pub mod CoreLemmas
 pub mod UnitLemmas
+pub mod ConflictLemmas

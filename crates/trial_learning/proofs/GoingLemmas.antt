@@ -1,100 +1,22 @@
 -- How a search goes on: which decisions come first, and that its clauses mean the same.
-use Rattle.std.proofs.Common.{◌≡◌, ◌⊎◌, ℕ, zero, suc, ◌<◌, ◌≤◌, ◌+◌, List, [], ◌∷◌, ◌++◌, length}
-use Rattle.std.proofs.Common.{take, Some, None, sym, ap, ◌∙◌, subst, inl, inr, arith, append_assoc}
+use Rattle.std.proofs.Common.{◌≡◌, ◌⊎◌, ℕ, ◌≤◌, ◌+◌, List, [], ◌∷◌, ◌++◌, length}
+use Rattle.std.proofs.Common.{sym, ap, ◌∙◌, subst, arith, append_assoc}
 use Rattle.std.proofs.Common.{length-append}
-use Rattle.std.specs.Prelude.{All, Contains, slice_get, IsSome, Result, Ok, Err, OnOk}
-use Rattle.std.proofs.lemmas.Bool.{cases_lt, false≢true}
-use Rattle.std.proofs.lemmas.List.{take-append-le, append-nil, get_or_append_left}
-use Rattle.std.proofs.Math.Seq.{take-append_seam}
-use Rattle.std.proofs.lemmas.List.Elements.{All-head, All-tail, All-push}
-use Rattle.std.proofs.lemmas.Option.{same_Some, slice_get_within}
+use Rattle.std.specs.Prelude.{All, Contains, Result, Ok, Err, OnOk}
+use Rattle.std.proofs.lemmas.List.{append-nil, get_or_append_left}
+use Rattle.std.proofs.lemmas.List.Elements.{All-push}
 use Rattle.clause_store.specs.declared.literal.Lit.{Lit}
 use Rattle.clause_store.specs.declared.step.Step.{Step}
 use Rattle.clause_store.specs.Clause.{HoldsIn, Meets}
 use Rattle.clause_store.specs.Entailment.{AreUnits, Follows}
-use Rattle.clause_store.specs.Trail.{Assigned, IsTrail, RisesFrom, up_to, next_level, present_level}
-use Rattle.clause_store.proofs.BackLemmas.{front_after_back}
-use Rattle.clause_store.proofs.ReasonLemmas.{slice_get-seam}
-use Rattle.clause_store.proofs.TrailLemmas.{slice_get-append}
+use Rattle.clause_store.specs.Trail.{Assigned, IsTrail, up_to, present_level}
 use Rattle.propagator.specs.Fixpoint.{Extends, IsFixpoint}
-use Rattle.trial_learning.specs.Search.{AddsUnits, AreSettledBelow, AreTrue, AreAssumedFirst}
+use Rattle.trial_learning.specs.Search.{AddsUnits, AreSettledBelow}
 use Rattle.trial_learning.specs.Search.{MeanTheSame, GoesOn}
 use Rattle.trial_learning.proofs.SettledLemmas.{IsLearnedOn, learned_is_unit, settled_back}
 use Rattle.trial_learning.proofs.SettledLemmas.{settled_decided, settled_extended, settled_learned}
-
--- ---- decisions
-
--- a trail of level 0 has no decision
-none_decided : (start : ℕ) (steps : List Step) (at : ℕ) (step : Step) → RisesFrom start steps
-    → present_level steps ≡ 0 → slice_get steps at ≡ Some step → step.reason ≡ None → ⊥
-none_decided start [] at step rises level here decided = absurd (cc)
-none_decided start (first ∷ rest) zero step rises level here decided =
-    let same : first ≡ step = same_Some first step here in
-    let high : first.level ≡ start + 1 =
-    rises.0 ∙ ap (next_level start) (ap (λ s. s.reason) same ∙ decided) in
-    absurd (omega arith)
-none_decided start (first ∷ rest) (suc at) step rises level here decided =
-    none_decided first.level rest at step rises.1 (omega arith) here decided
-
-pub first_at_start : (assumed : List Lit) (trail : Assigned) → IsTrail trail
-    → present_level trail.steps ≡ 0 → AreAssumedFirst assumed trail.steps
-first_at_start assumed trail is level at step here decided =
-    absurd (none_decided 0 trail.steps at step is.levels level here decided)
-
-first_of_front : (assumed : List Lit) (front rest : List Step)
-    → AreAssumedFirst assumed (front ++ rest) → AreAssumedFirst assumed front
-first_of_front assumed front rest first at step here decided =
-    let within : at < length front = slice_get_within front at step here in
-    let low : at ≤ length front = omega arith in
-    subst (λ before. Contains assumed step.lit ⊎ AreTrue before assumed)
-    (take-append-le at front rest low)
-    (first at step (slice_get-append front rest at step here) decided)
-
-front_at : (steps : List Step) (last : Step) (at : ℕ) (step : Step) → at < length steps
-    → slice_get (steps ++ last ∷ []) at ≡ Some step → slice_get steps at ≡ Some step
-front_at [] last at step within here = absurd (omega (arith, within))
-front_at (x ∷ steps) last zero step within here = here
-front_at (x ∷ steps) last (suc at) step within here =
-    front_at steps last at step (omega (arith, within)) here
-
--- an assignment comes last
-pub first_push : (assumed : List Lit) (steps : List Step) (last : Step)
-    → AreAssumedFirst assumed steps
-    → (last.reason ≡ None → Contains assumed last.lit ⊎ AreTrue steps assumed)
-    → AreAssumedFirst assumed (steps ++ last ∷ [])
-first_push assumed steps last first new at step here decided =
-    elim (cases_lt at (length steps)) [
-      | inl before ↦
-          let low : at ≤ length steps = omega arith in
-          subst (λ earlier. Contains assumed step.lit ⊎ AreTrue earlier assumed)
-          (sym (take-append-le at steps (last ∷ []) low))
-          (first at step (front_at steps last at step before here) decided)
-      | inr after ↦
-          let within : at < length (steps ++ last ∷ []) =
-          slice_get_within (steps ++ last ∷ []) at step here in
-          let end : at ≡ length steps = omega (arith, length-append steps (last ∷ [])) in
-          let is : last ≡ step =
-          same_Some last step
-          (sym (slice_get-seam steps last) ∙ ap (slice_get (steps ++ last ∷ [])) (sym end)
-          ∙ here) in
-          subst (λ s. Contains assumed s.lit ⊎ AreTrue (take at (steps ++ last ∷ [])) assumed) is
-          (subst (λ earlier. Contains assumed last.lit ⊎ AreTrue earlier assumed)
-          (sym (ap (λ n. take n (steps ++ last ∷ [])) end ∙ take-append_seam steps (last ∷ [])))
-          (new (ap (λ s. s.reason) is ∙ decided)))
-    ]
-
--- forced assignments come last
-first_with_forced : (assumed : List Lit) (steps added : List Step) → AreAssumedFirst assumed steps
-    → All (λ step. IsSome step.reason) added → AreAssumedFirst assumed (steps ++ added)
-first_with_forced assumed steps [] first forced =
-    subst (AreAssumedFirst assumed) (sym (append-nil steps)) first
-first_with_forced assumed steps (step ∷ rest) first forced =
-    subst (AreAssumedFirst assumed) (append_assoc steps (step ∷ []) rest)
-    (first_with_forced assumed (steps ++ step ∷ []) rest
-    (first_push assumed steps step first
-    (λ none. absurd
-    (false≢true (subst IsSome none (All-head (λ s. IsSome s.reason) step rest forced)))))
-    (All-tail (λ s. IsSome s.reason) step rest forced))
+use Rattle.search_state.specs.Assumed.{AreTrue, AreAssumedFirst}
+use Rattle.search_state.proofs.AssumedLemmas.{first_push, first_after_back, first_extended}
 
 -- ---- going on
 
@@ -157,8 +79,7 @@ goes_on_extended assumed clauses old new is =
       same = same_clauses clauses;
       units = no_units clauses;
       first =
-          λ first. subst (AreAssumedFirst assumed) (sym is.steps)
-          (first_with_forced assumed old.steps is.added first is.forced);
+          first_extended assumed old new is;
       settled = settled_extended clauses old new is;
     }
 
@@ -167,15 +88,13 @@ pub goes_on_back : (assumed : List Lit) (clauses : List (List Lit)) (old new : A
     → new ≡ record old { steps = up_to level old.steps } → present_level new.steps ≡ level
     → GoesOn assumed clauses clauses old new
 goes_on_back assumed clauses old new level is within back present =
-    let front = front_after_back old level is in
     record {
       vars = ap (λ trail. trail.vars) back;
       same = same_clauses clauses;
       units = no_units clauses;
       first = λ first.
           subst (AreAssumedFirst assumed) (sym (ap (λ trail. trail.steps) back))
-          (first_of_front assumed (up_to level old.steps) front.0
-          (subst (AreAssumedFirst assumed) front.1 first));
+          (first_after_back assumed old level is first);
       settled =
           settled_back clauses old.steps new.steps level within (ap (λ trail. trail.steps) back)
           present;

@@ -23,7 +23,7 @@ use Rattle.propagator.proofs.ClosureLemmas.{fixpoint_absorbs_no_unit}
 use Rattle.conflict_learning.specs.Analysis.{IsAsserting, level_at, greatest_level}
 use Rattle.conflict_learning.proofs.UnitLemmas.{back_is_lower, learned_is_a_unit}
 use Rattle.trial_learning.specs.Search.{AreSettledBelow}
-use Rattle.trial_learning.proofs.ConflictLemmas.{IsOfGreatest, greatest_there}
+use Rattle.conflict_learning.proofs.ConflictLemmas.{IsOfGreatest, greatest_there}
 
 -- ---- assignments come and go
 

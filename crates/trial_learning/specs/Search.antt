@@ -1,38 +1,21 @@
 -- What a search keeps on its way, and what it answers.
-use Rattle.std.specs.Prelude.{◌≡◌, ◌≢◌, ◌<◌, ◌+◌, ◌⊎◌, ◌↔◌, ◌++◌, ℕ, Bool, false, List, length}
-use Rattle.std.specs.Prelude.{slice_get, take, All, Contains, None, Some}
+use Rattle.std.specs.Prelude.{◌≡◌, ◌<◌, ◌+◌, ◌⊎◌, ◌↔◌, ◌++◌, ℕ, Bool, false, List, length}
+use Rattle.std.specs.Prelude.{All, Contains}
 use Rattle.clause_store.specs.declared.literal.Lit.{Lit}
-use Rattle.clause_store.specs.declared.literal.Value.TheVariants.{Yes}
 use Rattle.clause_store.specs.declared.step.Step.{Step}
 use Rattle.clause_store.specs.Clause.{Meets, IsTrueIn, IsOver, IsClause}
 use Rattle.clause_store.specs.Entailment.{AreUnits}
-use Rattle.clause_store.specs.Trail.{Assigned, present_level, up_to, value_of, values_of}
+use Rattle.clause_store.specs.Trail.{Assigned, present_level, up_to, values_of}
 use Rattle.conflict_learning.specs.AssumptionCore.{CannotMeet}
 use Rattle.propagator.specs.Fixpoint.{IsFixpoint}
 use Rattle.trial_learning.specs.declared.search.Search.{Search}
 use Rattle.trial_learning.specs.declared.search.Answer.{Answer}
 use Rattle.trial_learning.specs.declared.search.Answer.TheVariants.{Model, Core}
-
--- all literals are true
-abbrev pub AreTrue : List Step → List Lit → Type 0
-AreTrue steps lits = All (λ lit. value_of steps lit ≡ Yes) lits
-
--- the literal at a place isn't true
-pub record IsNotTrueAt (steps : List Step) (lits : List Lit) (at : ℕ) : Type 0 where
-  pub within : at < length lits
-  pub lit : Lit
-  pub there : slice_get lits at ≡ Some lit
-  pub not_true : value_of steps lit ≢ Yes
+use Rattle.search_state.specs.Assumed.{AreAssumedFirst}
 
 -- the same assignments meet both lists of clauses
 abbrev pub MeanTheSame : List (List Lit) → List (List Lit) → Type 0
 MeanTheSame one two = (values : List Bool) → Meets values one ↔ Meets values two
-
--- each decision is an assumed literal, or all of these were true before it
-abbrev pub AreAssumedFirst : List Lit → List Step → Type 0
-AreAssumedFirst assumed steps =
-    (at : ℕ) (step : Step) → slice_get steps at ≡ Some step → step.reason ≡ None
-    → Contains assumed step.lit ⊎ AreTrue (take at steps) assumed
 
 -- below the present level propagation had nothing left to do
 abbrev pub AreSettledBelow : List (List Lit) → List Step → Type 0

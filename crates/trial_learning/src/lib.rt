@@ -4,7 +4,6 @@
 
 #[cfg(test)]
 mod all_assignments;
-mod next_decision;
 #[cfg(test)]
 mod propagation_scenes;
 #[cfg(test)]

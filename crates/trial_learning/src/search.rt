@@ -9,15 +9,15 @@ ghost use Rattle.clause_store.specs.Trail.{IsTrail, present_level, up_to, value_
 ghost use Rattle.conflict_learning.specs.Analysis.{HasPresent, greatest_level};
 ghost use Rattle.conflict_learning.specs.AssumptionCore.{CannotMeet, IsCore};
 ghost use Rattle.propagator.specs.Fixpoint.{IsFixpoint};
-ghost use Rattle.trial_learning.specs.Search.{AreAssumedFirst, AreSettledBelow, AreTrue};
+ghost use Rattle.trial_learning.specs.Search.{AreSettledBelow};
 ghost use Rattle.trial_learning.specs.Search.{AddsUnits, GoesOn, IsSearchAnswer, IsLaterState};
-ghost use Rattle.trial_learning.specs.Search.{IsNearer, IsNotTrueAt};
+ghost use Rattle.trial_learning.specs.Search.{IsNearer};
+ghost use Rattle.search_state.specs.Assumed.{AreTrue, IsNotTrueAt, AreAssumedFirst};
 
-use crate::next_decision::{first_not_true, least_unset};
 use clause_store::{Clause, ClauseRef, Lit, Store, Value};
 use conflict_learning::{Learned, analyse, final_core, greatest_level};
 use item_list::NoMemory;
-use search_state::SearchState;
+use search_state::{SearchState, first_not_true, least_unset};
 use std::alloc::Global;
 
 /// What a search finds.

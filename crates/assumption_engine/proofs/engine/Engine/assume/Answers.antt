@@ -1,23 +1,12 @@
-use Rattle.std.proofs.Common.{◌≢◌, ℕ, List, [], length, get_or, inl, inr, refl, sym, ap, subst, ◌∙◌}
+use Rattle.std.proofs.Common.{[], length, get_or, inl, inr, refl, sym, ap, subst, ◌∙◌}
 use Rattle.std.proofs.lemmas.List.Elements.{Contains-get_or}
-use Rattle.std.proofs.lemmas.Option.{get_or_from_slice_get}
-use Rattle.clause_store.specs.declared.literal.Lit.{Lit}
-use Rattle.clause_store.specs.declared.literal.Value.TheVariants.{Yes}
-use Rattle.clause_store.specs.declared.step.Step.{Step}
-use Rattle.clause_store.specs.Trail.{value_of}
-use Rattle.assumption_engine.specs.Engine.{AreAssumedFirst, IsNotTrueAt}
-use Rattle.assumption_engine.proofs.AnswerLemmas.{core_of, is_no, room_below}
-use Rattle.assumption_engine.proofs.GoingLemmas.{first_push, goes_on_still}
+use Rattle.assumption_engine.proofs.AnswerLemmas.{core_of, room_below}
+use Rattle.assumption_engine.proofs.GoingLemmas.{goes_on_still}
 use Rattle.assumption_engine.proofs.ProgressLemmas.{weight_longer}
 use Rattle.assumption_engine.proofs.SameLemmas.{right_pushed, same_itself}
+use Rattle.search_state.specs.Assumed.{AreAssumedFirst}
+use Rattle.search_state.proofs.AssumedLemmas.{not_true, is_no, first_push}
 use Rattle.assumption_engine.proofs.engine.Engine.assume.Goals as goal
-
--- the assumed literal that was read isn't true
-not_true : (steps : List Step) (assumed : List Lit) (at : ℕ) (d : Lit)
-    → IsNotTrueAt steps assumed at → value_of steps (get_or assumed at d) ≢ Yes
-not_true steps assumed at d next =
-    subst (λ lit. value_of steps lit ≢ Yes)
-    (sym (get_or_from_slice_get assumed at next.lit d next.there)) next.not_true
 
 pub returns-in-Unset-clause-right : goal.returns-in-Unset-clause-right
 returns-in-Unset-clause-right g c =

@@ -1,8 +1,9 @@
 use Rattle.std.proofs.Common.{[], length, inr, refl, sym, ap, subst}
-use Rattle.assumption_engine.specs.Engine.{AreAssumedFirst}
-use Rattle.assumption_engine.proofs.GoingLemmas.{first_push, goes_on_still}
+use Rattle.assumption_engine.proofs.GoingLemmas.{goes_on_still}
 use Rattle.assumption_engine.proofs.ProgressLemmas.{weight_longer}
 use Rattle.assumption_engine.proofs.SameLemmas.{right_pushed, same_itself}
+use Rattle.search_state.specs.Assumed.{AreAssumedFirst}
+use Rattle.search_state.proofs.AssumedLemmas.{first_push}
 use Rattle.assumption_engine.proofs.engine.Engine.decide.Goals as goal
 
 pub returns-clause-right : goal.returns-clause-right

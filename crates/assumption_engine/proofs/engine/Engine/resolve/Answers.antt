@@ -2,7 +2,7 @@ use Rattle.std.proofs.Common.{◌<◌, arith, ap, sym, subst}
 use Rattle.clause_store.specs.Trail.{present_level}
 use Rattle.conflict_learning.proofs.UnitLemmas.{back_is_lower}
 use Rattle.assumption_engine.specs.Engine.{Taught}
-use Rattle.assumption_engine.proofs.ConflictLemmas.{level_within, conflict_there}
+use Rattle.conflict_learning.proofs.ConflictLemmas.{level_within, conflict_there}
 use Rattle.assumption_engine.proofs.DownLemmas.{taught}
 use Rattle.assumption_engine.proofs.engine.Engine.resolve.Goals as goal
 

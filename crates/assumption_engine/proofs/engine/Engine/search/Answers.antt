@@ -2,12 +2,14 @@ use Rattle.std.proofs.Common.{◌+◌, length, refl, sym, ap, subst}
 use Rattle.std.specs.Prelude.{All}
 use Rattle.clause_store.specs.Clause.{IsOver}
 use Rattle.assumption_engine.specs.Answer.{HasEnded}
-use Rattle.assumption_engine.specs.Engine.{AreAssumedFirst, HasCounted}
-use Rattle.assumption_engine.proofs.GoingLemmas.{counted_then, first_after_back, first_at_start}
+use Rattle.assumption_engine.specs.Engine.{HasCounted}
+use Rattle.assumption_engine.proofs.GoingLemmas.{counted_then}
 use Rattle.assumption_engine.proofs.GoingLemmas.{goes_on_still, goes_on_then, if_ok_then}
 use Rattle.assumption_engine.proofs.GoingLemmas.{on_ok_then}
 use Rattle.assumption_engine.proofs.SameLemmas.{same_then}
 use Rattle.assumption_engine.proofs.TurnLemmas.{ended_at_slice}
+use Rattle.search_state.specs.Assumed.{AreAssumedFirst}
+use Rattle.search_state.proofs.AssumedLemmas.{first_at_start, first_after_back}
 use Rattle.assumption_engine.proofs.engine.Engine.search.Goals as goal
 
 pub run-requires-clause-over : goal.run-requires-clause-over

@@ -1,10 +1,11 @@
 use Rattle.std.proofs.Common.{◌≤◌, List, [], ◌∷◌, ◌++◌, length, ap, ◌∙◌, arith, refl, sym, subst}
 use Rattle.clause_store.specs.declared.literal.Lit.{Lit}
-use Rattle.assumption_engine.proofs.GoingLemmas.{first_after_back, goes_on_given, goes_on_still}
+use Rattle.assumption_engine.proofs.GoingLemmas.{goes_on_given, goes_on_still}
 use Rattle.assumption_engine.proofs.GoingLemmas.{goes_on_then, right_added}
 use Rattle.assumption_engine.proofs.SameLemmas.{same_itself}
 use Rattle.assumption_engine.proofs.TurnLemmas.{given_is_unit}
-use Rattle.assumption_engine.specs.Engine.{AreAssumedFirst}
+use Rattle.search_state.specs.Assumed.{AreAssumedFirst}
+use Rattle.search_state.proofs.AssumedLemmas.{first_after_back}
 use Rattle.assumption_engine.proofs.engine.Engine.take_given.Goals as goal
 
 pub go_back-requires-clause-right : goal.go_back-requires-clause-right

@@ -2,12 +2,13 @@ use Rattle.std.proofs.Common.{refl}
 use Rattle.std.specs.Prelude.{List}
 use Rattle.clause_store.specs.declared.literal.Lit.{Lit}
 use Rattle.assumption_engine.specs.Answer.{IsTurn}
-use Rattle.assumption_engine.proofs.GoingLemmas.{counted_none, counted_then, first_extended}
+use Rattle.assumption_engine.proofs.GoingLemmas.{counted_none, counted_then}
 use Rattle.assumption_engine.proofs.GoingLemmas.{goes_on_still, goes_on_then, if_ok_then}
 use Rattle.assumption_engine.proofs.GoingLemmas.{on_ok_then}
 use Rattle.assumption_engine.proofs.ProgressLemmas.{weight_no_less}
 use Rattle.assumption_engine.proofs.SameLemmas.{right_extended, same_itself}
 use Rattle.assumption_engine.proofs.TurnLemmas.{turn_then}
+use Rattle.search_state.proofs.AssumedLemmas.{first_extended}
 use Rattle.assumption_engine.proofs.engine.Engine.turn.Goals as goal
 
 pub learn_from-requires-clause-right : goal.learn_from-requires-clause-right

@@ -1,13 +1,8 @@
-use Rattle.std.proofs.Common.{◌≢◌, ℕ, List, get_or, ap, inl, refl, sym, subst, ◌∙◌}
+use Rattle.std.proofs.Common.{get_or, ap, inl, refl, ◌∙◌}
 use Rattle.std.proofs.lemmas.List.Elements.{Contains-get_or}
-use Rattle.std.proofs.lemmas.Option.{get_or_from_slice_get}
-use Rattle.clause_store.specs.declared.literal.Lit.{Lit}
-use Rattle.clause_store.specs.declared.literal.Value.TheVariants.{Yes}
-use Rattle.clause_store.specs.declared.step.Step.{Step}
-use Rattle.clause_store.specs.Trail.{value_of}
-use Rattle.trial_learning.specs.Search.{IsNotTrueAt}
 use Rattle.trial_learning.proofs.GoingLemmas.{goes_on_decided, goes_on_in_same}
-use Rattle.trial_learning.proofs.AnswerLemmas.{core_unmet, is_no}
+use Rattle.trial_learning.proofs.AnswerLemmas.{core_unmet}
+use Rattle.search_state.proofs.AssumedLemmas.{not_true, is_no}
 use Rattle.trial_learning.proofs.search.Search.assume.Goals as goal
 
 pub returns-in-Unset-clause-on : goal.returns-in-Unset-clause-on
@@ -18,13 +13,6 @@ returns-in-Unset-clause-on c =
     c.decide.new.self.trail _ (ap (λ it. it.trail) c.decide.ensures)
     (inl (Contains-get_or c.args.assumed.now c.args.at (record { 0 = 0 }) c.requires.next.within))
     c.requires.fixpoint refl)
-
--- the assumed literal that was read isn't true
-not_true : (steps : List Step) (assumed : List Lit) (at : ℕ) (d : Lit)
-    → IsNotTrueAt steps assumed at → value_of steps (get_or assumed at d) ≢ Yes
-not_true steps assumed at d next =
-    subst (λ lit. value_of steps lit ≢ Yes)
-    (sym (get_or_from_slice_get assumed at next.lit d next.there)) next.not_true
 
 pub core_of-requires-clause-is_false : goal.core_of-requires-clause-is_false
 core_of-requires-clause-is_false c =

@@ -1,17 +1,24 @@
 use Rattle.std.proofs.Common.{ap, arith, subst, sym, ◌∙◌}
+use Rattle.std.specs.Prelude.{Contains}
+use Rattle.std.proofs.lemmas.List.Elements.{All-nil}
 use Rattle.trial_learning.specs.Search.{IsUnmet}
 use Rattle.trial_learning.proofs.GoingLemmas.{goes_on}
-use Rattle.trial_learning.proofs.ConflictLemmas.{level_within, conflict_there}
-use Rattle.trial_learning.proofs.AnswerLemmas.{none_met}
+use Rattle.conflict_learning.proofs.ConflictLemmas.{level_within, conflict_there, none_met}
 use Rattle.trial_learning.proofs.search.Search.learn_from.Goals as goal
 
 pub returns-then-level-eq0-clause-answer : goal.returns-then-level-eq0-clause-answer
 returns-then-level-eq0-clause-answer c assumed =
     let wrong = c.requires.conflict in
     subst (IsUnmet c.args.self.now.state.clauses assumed) (sym c.open.ensures)
-    (none_met c.args.self.now.state.clauses c.args.self.now.state.trail assumed c.args.conflict
-    wrong.clause c.vouch.ensures.is_trail c.vouch.ensures.of_store wrong wrong.named
-    (sym (c.greatest_level-level.ensures wrong.clause wrong.named) ∙ c.if-level-eq0.true))
+    (record {
+      among = All-nil (Contains assumed);
+      unmet =
+          λ values meets all. none_met c.args.self.now.state.clauses c.args.self.now.state.trail
+          c.args.conflict wrong.clause c.vouch.ensures.is_trail c.vouch.ensures.of_store wrong
+          wrong.named
+          (sym (c.greatest_level-level.ensures wrong.clause wrong.named) ∙ c.if-level-eq0.true)
+          values meets;
+    })
 
 pub go_back-requires-clause-level : goal.go_back-requires-clause-level
 go_back-requires-clause-level c =

@@ -2,9 +2,10 @@ use Rattle.std.proofs.Common.{ap, arith, length, subst}
 use Rattle.trial_learning.proofs.TurnLemmas.{fewer_turns, without_answer}
 use Rattle.std.specs.Prelude.{IfSome}
 use Rattle.trial_learning.specs.Search.{IsSearchAnswer}
-use Rattle.trial_learning.proofs.GoingLemmas.{first_at_start, goes_on}
+use Rattle.trial_learning.proofs.GoingLemmas.{goes_on}
 use Rattle.trial_learning.proofs.SettledLemmas.{settled_at_start}
 use Rattle.trial_learning.proofs.AnswerLemmas.{answer_before}
+use Rattle.search_state.proofs.AssumedLemmas.{first_at_start}
 use Rattle.trial_learning.proofs.search.Search.solve.Goals as goal
 
 pub turns-init : goal.turns-init

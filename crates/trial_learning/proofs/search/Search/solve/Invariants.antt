@@ -1,7 +1,8 @@
 use Rattle.std.proofs.Common.{◌≡◌, length}
 use Rattle.std.specs.Prelude.{false}
-use Rattle.trial_learning.specs.Search.{AreAssumedFirst, AreSettledBelow, GoesOn}
+use Rattle.trial_learning.specs.Search.{AreSettledBelow, GoesOn}
 use Rattle.trial_learning.proofs.TurnLemmas.{turns_left}
+use Rattle.search_state.specs.Assumed.{AreAssumedFirst}
 use Rattle.trial_learning.proofs.search.Search.solve.Given as goal
 
 abbrev pub invariant-turns : goal.invariant-turns

@@ -1,7 +1,7 @@
 -- A conflict at the level to which a search goes back for it.
 use Rattle.std.proofs.Common.{◌≡◌, ℕ, ◌<◌, ◌≤◌, List, [], ◌∷◌, get_or, Some, sym, ap, ◌∙◌, subst}
 use Rattle.std.proofs.Common.{inl, inr, arith}
-use Rattle.std.specs.Prelude.{All, Any, Contains, slice_get}
+use Rattle.std.specs.Prelude.{All, Any, Bool, Contains, slice_get}
 use Rattle.std.proofs.lemmas.Bool.{cases_lt}
 use Rattle.std.proofs.lemmas.List.Elements.{All-cons, All-nil, All-head, All-tail, All-weaker}
 use Rattle.std.proofs.lemmas.List.Elements.{All-contains}
@@ -9,13 +9,14 @@ use Rattle.std.proofs.lemmas.Option.{same_Some}
 use Rattle.clause_store.specs.declared.literal.Lit.{Lit}
 use Rattle.clause_store.specs.declared.literal.ClauseRef.{ClauseRef}
 use Rattle.clause_store.specs.declared.step.Step.{Step}
-use Rattle.clause_store.specs.Clause.{variable}
+use Rattle.clause_store.specs.Clause.{variable, HoldsIn, Meets}
 use Rattle.clause_store.specs.Standing.{IsFalse, IsConflict}
-use Rattle.clause_store.specs.Trail.{value_by, present_level, up_to}
+use Rattle.clause_store.specs.Trail.{Assigned, IsTrail, IsTrailOf, value_by, present_level, up_to}
 use Rattle.clause_store.proofs.BackLemmas.{step_of_up_to}
 use Rattle.clause_store.proofs.LiteralLemmas.{any_from, has_first, has_later}
+use Rattle.clause_store.proofs.lemmas.Trails.ZeroLemmas.{false_at_zero}
 use Rattle.conflict_learning.specs.Analysis.{HasPresent, level_at, greatest_level}
-use Rattle.conflict_learning.proofs.AssignedLemmas.{refuter, level_found, below_present}
+use Rattle.conflict_learning.proofs.AssignedLemmas.{here_at, refuter, level_found, below_present}
 use Rattle.conflict_learning.proofs.LearnedLemmas.{conflict_false}
 
 -- ---- levels
@@ -140,3 +141,28 @@ pub level_within : (clauses : List (List Lit)) (steps : List Step) (at : ClauseR
 level_within clauses steps at lits level is named greatest =
     let low = greatest_below_present steps lits (conflict_false clauses steps at lits is named) in
     omega arith
+
+-- ---- a conflict of level 0
+
+-- all literals of a clause of level 0 are of it
+all_ground : (steps : List Step) (lits : List Lit) → greatest_level steps lits ≡ 0
+    → All (λ lit. level_at steps lit ≡ 0) lits
+all_ground steps [] level = All-nil (λ lit. level_at steps lit ≡ 0)
+all_ground steps (lit ∷ rest) level =
+    All-cons (λ l. level_at steps l ≡ 0) lit rest (omega arith)
+    (all_ground steps rest (omega arith))
+
+-- where a clause is false at level 0, the clauses can't be met
+pub none_met : (clauses : List (List Lit)) (trail : Assigned) (at : ClauseRef) (lits : List Lit)
+    → IsTrail trail → IsTrailOf trail.steps clauses → IsConflict clauses trail.steps at
+    → slice_get clauses at.0 ≡ Some lits → greatest_level trail.steps lits ≡ 0
+    → (values : List Bool) → Meets values clauses → ⊥
+none_met clauses trail at lits is of conflict named level values meets =
+    false_at_zero trail clauses lits values is of
+    (λ k d within.
+    (still_false 0 trail.steps (get_or lits k d) (wrong k d within)
+    (omega (arith, all_ground trail.steps lits level k d within))).is_false)
+    (All-contains (HoldsIn values) clauses lits meets (here_at clauses at.0 lits named)) meets
+  where
+    wrong : All (IsFalse trail.steps) lits
+    wrong = conflict_false clauses trail.steps at lits conflict named

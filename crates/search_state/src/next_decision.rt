@@ -1,8 +1,8 @@
 // What steers a search: what is to be decided next.
-ghost use Rattle.std.specs.Prelude.{◌≡◌, ◌≢◌, ◌<◌, length, All, IfNone, IfSome};
+ghost use Rattle.std.specs.Prelude.{◌≡◌, ◌<◌, All, IfNone, IfSome};
 ghost use Rattle.clause_store.specs.Clause.{IsOver};
 ghost use Rattle.clause_store.specs.Trail.{IsTotal, value_of};
-ghost use Rattle.assumption_engine.specs.Engine.{AreTrue, IsNotTrueAt};
+ghost use Rattle.search_state.specs.Assumed.{AreTrue, IsNotTrueAt};
 
 use clause_store::{Lit, Trail, Value, Var};
 
