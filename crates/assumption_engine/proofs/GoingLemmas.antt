@@ -1,13 +1,15 @@
 -- How a search goes on: which decisions come first, and which clauses come.
-use Rattle.std.proofs.Common.{◌≡◌, ◌+◌, List, [], ◌∷◌, ◌++◌}
-use Rattle.std.proofs.Common.{refl, sym, ap, ◌∙◌, subst, arith}
-use Rattle.std.proofs.Common.{append_assoc}
-use Rattle.std.specs.Prelude.{All, Contains, Bool}
+use Rattle.std.proofs.Common.{◌≡◌, ◌⊎◌, ℕ, zero, suc, ◌<◌, ◌≤◌, ◌+◌, List, [], ◌∷◌, ◌++◌, length}
+use Rattle.std.proofs.Common.{take, Some, None, refl, sym, ap, ◌∙◌, subst, inl, inr, arith}
+use Rattle.std.proofs.Common.{append_assoc, get_or, length-append}
+use Rattle.std.specs.Prelude.{All, Contains, slice_get, IsSome, Bool}
 use Rattle.std.specs.Prelude.{Result, Ok, Err, OnOk, IfOk}
-use Rattle.std.proofs.lemmas.List.{append-nil}
-use Rattle.std.proofs.lemmas.List.Elements.{All-append, All-cons, All-nil, All-push}
-use Rattle.std.proofs.lemmas.List.Elements.{All-weaker, All-contains_itself}
-use Rattle.std.proofs.lemmas.List.Elements.{Contains-append_left}
+use Rattle.std.proofs.lemmas.Bool.{cases_lt, false≢true}
+use Rattle.std.proofs.lemmas.List.{take-append-le, append-nil}
+use Rattle.std.proofs.Math.Seq.{take-append_seam}
+use Rattle.std.proofs.lemmas.List.Elements.{All-append, All-cons, All-head, All-nil, All-push}
+use Rattle.std.proofs.lemmas.List.Elements.{All-tail, All-weaker, All-contains_itself}
+use Rattle.std.proofs.lemmas.List.Elements.{All-contains, Contains-append_left, Contains-push}
 use Rattle.std.proofs.lemmas.List.Elements.{Contains-append_right}
 use Rattle.clause_store.specs.declared.literal.Lit.{Lit}
 use Rattle.clause_store.specs.Clause.{HoldsIn, Meets}
@@ -212,6 +214,47 @@ right_added meaning followed old new defined clause is ready store trail holds =
         subst (AreMoreClauses clauses) (sym store)
         (All-weaker (Contains old.store) (Contains (old.store ++ clause ∷ []))
         (λ one here. Contains-append_left old.store (clause ∷ []) one here) clauses there)
+
+-- a selector is defined: its clause comes, to the clauses of the selectors too
+pub right_defined : (meaning : Meaning) (followed : List Followed) (old new : State)
+    (was defined : List (List Lit)) (clause : List Lit) → IsRight meaning followed old was
+    → IsReady new.store new.trail new.watches → new.store ≡ old.store ++ clause ∷ []
+    → new.trail ≡ old.trail → defined ≡ was ++ clause ∷ []
+    → IsRight meaning followed new defined
+right_defined meaning followed old new was defined clause is ready store trail more =
+    record {
+      ready = ready;
+      holds = λ values model. subst (Meets values) (sym store) (meets values model);
+      needed =
+          subst (AreMoreClauses meaning.needs) (sym store)
+          (All-weaker (Contains old.store) (Contains (old.store ++ clause ∷ []))
+          (λ one here. Contains-append_left old.store (clause ∷ []) one here) meaning.needs
+          is.needed);
+      kept =
+          subst (λ d. AreMoreClauses d new.store) (sym more)
+          (subst (AreMoreClauses (was ++ clause ∷ [])) (sym store)
+          (All-push (Contains (old.store ++ clause ∷ [])) was clause
+          (All-weaker (Contains old.store) (Contains (old.store ++ clause ∷ []))
+          (λ one here. Contains-append_left old.store (clause ∷ []) one here) was is.kept)
+          (Contains-push old.store clause)));
+      range =
+          let r = is.range in let same = ap (λ t. t.vars) trail in omega (arith, r, same);
+      follows = subst (λ t. AreFollowed t.steps followed) (sym trail) is.follows;
+    }
+  where
+    meets : (values : List Bool) → IsModelOf meaning defined values
+        → Meets values (old.store ++ clause ∷ [])
+    meets values model =
+        let both : Meets values (was ++ clause ∷ []) = subst (Meets values) more model.meets in
+        let first : Meets values was =
+        all_through (HoldsIn values) was (was ++ clause ∷ [])
+        (λ k d within. Contains-append_left was (clause ∷ []) (get_or was k d)
+        (All-contains_itself was k d within)) both in
+        let last : HoldsIn values clause =
+        All-contains (HoldsIn values) (was ++ clause ∷ []) clause both
+        (Contains-push was clause) in
+        All-push (HoldsIn values) old.store clause
+        (is.holds values (record { model = model.model; meets = first })) last
 
 -- a clause is counted
 pub goes_on_counted : (meaning : Meaning) (assumed : List Lit) (old new : State)

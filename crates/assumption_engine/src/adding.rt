@@ -1,6 +1,7 @@
 // Clauses that are added between questions.
 ghost use Rattle.std.specs.Prelude.{◌≡◌, ◌∷◌, [], ◌++◌, Bool, List, All, OnErr, OnOk, false, true};
 ghost use Rattle.clause_store.specs.Clause.{HasNoVariableTwice, HoldsIn, IsOver};
+ghost use Rattle.clause_store.specs.Trail.{up_to};
 ghost use Rattle.assumption_engine.specs.Theory.{MeansTheSame};
 ghost use Rattle.assumption_engine.specs.Engine.{IsModelOf, IsRight};
 
@@ -16,7 +17,7 @@ impl<T: Theory> Engine<T> {
     pub fn add(&mut self, alloc: Global, lits: &[Lit]) -> Result<(), NoMemory>
         requires right { self.old.dead ≡ false → IsRight (T.meaning self.old.theory)
             (T.followed self.old.theory) self.old.state self.old.defined }
-        requires over { All (IsOver self.old.state.trail.vars) lits.now }
+        requires over { self.old.dead ≡ false → All (IsOver self.old.state.trail.vars) lits.now }
         requires once { HasNoVariableTwice lits.now }
         requires holds { (values : List Bool)
             → IsModelOf (T.meaning self.old.theory) self.old.defined values
@@ -27,6 +28,9 @@ impl<T: Theory> Engine<T> {
         ensures defined { self.new.defined ≡ self.old.defined }
         ensures ok { OnOk result
             (self.new.state.store ≡ self.old.state.store ++ lits.now ∷ []) }
+        ensures back { OnOk result (self.new.state.trail
+            ≡ record self.old.state.trail { steps = up_to 0 self.old.state.trail.steps }) }
+        ensures alive { OnOk result (self.new.dead ≡ false) }
         ensures err { OnErr result (self.new.dead ≡ true) }
     {
         if self.dead {
@@ -57,6 +61,8 @@ impl<T: Theory> Engine<T> {
         ensures defined { self.new.defined ≡ self.old.defined }
         ensures ok { OnOk result
             (self.new.state.store ≡ self.old.state.store ++ lits.now ∷ []) }
+        ensures trail { self.new.state.trail ≡ self.old.state.trail }
+        ensures dead { self.new.dead ≡ self.old.dead }
     {
         self.state.add(alloc, lits)?;
         Ok(())

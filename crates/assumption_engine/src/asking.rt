@@ -146,7 +146,8 @@ impl<T: Theory> Engine<T> {
     pub fn ask(&mut self, alloc: Global, assume: &[Lit], budget: &mut Budget, slice: u32) -> Answer
         requires right { self.old.dead ≡ false → IsRight (T.meaning self.old.theory)
             (T.followed self.old.theory) self.old.state self.old.defined }
-        requires over { All (IsOver self.old.state.trail.vars) assume.now }
+        requires over { self.old.dead ≡ false
+            → All (IsOver self.old.state.trail.vars) assume.now }
         requires some { 1 ≤ slice }
         requires unused { length budget.old.units < budget.old.limit }
         ensures right { self.new.dead ≡ false → IsRight (T.meaning self.new.theory)
@@ -163,6 +164,7 @@ impl<T: Theory> Engine<T> {
         ensures answer { result ≢ Answer.NoMemory → HasEnded (T.meaning self.old.theory)
             self.old.defined assume.now (length budget.old.units + slice) self.new.state
             budget.new result }
+        ensures alive { result ≢ Answer.NoMemory → self.new.dead ≡ false }
         ensures dead { result ≡ Answer.NoMemory → self.new.dead ≡ true }
         ensures stays_dead { self.old.dead ≡ true → result ≡ Answer.NoMemory }
     {
@@ -170,7 +172,10 @@ impl<T: Theory> Engine<T> {
             return Answer::NoMemory;
         }
         match self.search(alloc, assume, budget, slice) {
-            Ok(answer) => answer,
+            Ok(answer) => {
+                self.dead = false;
+                answer
+            }
             Err(_) => {
                 self.dead = true;
                 Answer::NoMemory

@@ -6,6 +6,7 @@ mod answer;
 mod asking;
 mod check;
 mod deciding;
+mod defining;
 mod engine;
 mod giving;
 mod learning;

@@ -8,7 +8,7 @@ use Rattle.assumption_engine.proofs.engine.Engine.add.Goals as goal
 pub put_last-requires-clause-over : goal.put_last-requires-clause-over
 put_last-requires-clause-over g c =
     subst (λ t. All (IsOver t.vars) c.args.lits.now) (sym c.go_back.ensures.back.trail)
-    c.requires.over
+    (c.requires.over c.if-self.false)
 
 pub put_last-requires-clause-holds : goal.put_last-requires-clause-holds
 put_last-requires-clause-holds g c values model =
