@@ -27,7 +27,7 @@ build() { # REVISION NAME
 build "$old" old
 build "$new" new
 python3 bench/make_input.py mixed 30000000 > "$folder/mixed"
-python3 bench/make_input.py basic 2700000 > "$folder/basic"
+python3 bench/make_input.py basic 2400000 > "$folder/basic"
 for name in mixed basic; do
   for phase in read normalise complete; do
     for side in old new old new; do
