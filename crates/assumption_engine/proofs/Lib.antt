@@ -4,3 +4,4 @@ pub mod GoingLemmas
 pub mod DownLemmas
 pub mod AnswerLemmas
 pub mod TurnLemmas
+pub mod StepLemmas

@@ -1,12 +1,14 @@
 -- What the answers of an engine say, and when it ends for having counted.
 use Rattle.std.specs.Prelude.{◌≡◌, ◌≢◌, ◌≤◌, ◌<◌, ◌+◌, ◌⊎◌, ℕ, Bool, List, length, All, Contains, ⊤}
 use Rattle.clause_store.specs.declared.literal.Lit.{Lit}
-use Rattle.clause_store.specs.Clause.{IsTrueIn, Meets}
+use Rattle.clause_store.specs.Clause.{IsOver, IsTrueIn, Meets}
 use Rattle.clause_store.specs.Counted.{Counted}
 use Rattle.clause_store.specs.declared.literal.Value.TheVariants.{Unset}
+use Rattle.clause_store.specs.Standing.{Followed}
 use Rattle.clause_store.specs.Trail.{Assigned, IsTotal, value_of, values_of}
 use Rattle.assumption_engine.specs.Theory.{Meaning, IsSpentCheck}
-use Rattle.assumption_engine.specs.Engine.{IsModelOf}
+use Rattle.search_state.specs.Assumed.{AreAssumedFirst}
+use Rattle.assumption_engine.specs.Engine.{IsModelOf, IsRight}
 use Rattle.assumption_engine.specs.Progress.{IsNearer}
 use Rattle.assumption_engine.specs.declared.answer.Answer.{Answer}
 use Rattle.assumption_engine.specs.declared.answer.Answer.TheVariants.{Model, Core, Spent}
@@ -91,6 +93,15 @@ IsTurn meaning defined assumed stop old new after (Ended answer) =
 pub record HasRoom (stop : ℕ) (before : Counted) : Type 0 where
   pub below : length before.units < stop
   pub within : stop ≤ before.limit
+
+-- a turn may begin: all is right, the assumed literals are over the variables and come first, and
+-- one more clause may be counted
+pub record MayTurn (meaning : Meaning) (followed : List Followed) (state : State)
+    (defined : List (List Lit)) (assumed : List Lit) (stop : ℕ) (before : Counted) : Type 0 where
+  pub right : IsRight meaning followed state defined
+  pub over : All (IsOver state.trail.vars) assumed
+  pub first : AreAssumedFirst assumed state.trail.steps
+  pub room : HasRoom stop before
 
 -- the answers that come for having counted
 abbrev pub IsStopped : ℕ → Counted → Answer → Type 0

@@ -4,9 +4,7 @@ ghost use Rattle.clause_store.specs.Clause.{IsOver};
 ghost use Rattle.propagator.specs.Fixpoint.{IsFixpoint};
 ghost use Rattle.assumption_engine.specs.Theory.{MeansTheSame};
 ghost use Rattle.assumption_engine.specs.Engine.{GoesOn, HasCounted, IsRight};
-ghost use Rattle.assumption_engine.specs.Answer.{HasEnded, HasRoom};
-ghost use Rattle.assumption_engine.specs.Answer.{IsStop, IsTurn};
-ghost use Rattle.search_state.specs.Assumed.{AreAssumedFirst};
+ghost use Rattle.assumption_engine.specs.Answer.{HasEnded, IsStop, IsTurn, MayTurn};
 
 use crate::answer::{Answer, Turn};
 use crate::engine::Engine;
@@ -26,11 +24,8 @@ impl<T: Theory> Engine<T> {
         budget: &mut Budget,
         stop: u32,
     ) -> Result<Turn, NoMemory>
-        requires right { IsRight (T.meaning self.old.theory) (T.followed self.old.theory)
-            self.old.state self.old.defined }
-        requires over { All (IsOver self.old.state.trail.vars) assumed.now }
-        requires first { AreAssumedFirst assumed.now self.old.state.trail.steps }
-        requires room { HasRoom stop budget.old }
+        requires may { MayTurn (T.meaning self.old.theory) (T.followed self.old.theory)
+            self.old.state self.old.defined assumed.now stop budget.old }
         ensures right { OnOk result (IsRight (T.meaning self.new.theory)
             (T.followed self.new.theory) self.new.state self.new.defined) }
         ensures same { MeansTheSame (T.meaning self.old.theory) (T.meaning self.new.theory) }
@@ -56,12 +51,9 @@ impl<T: Theory> Engine<T> {
         budget: &Budget,
         stop: u32,
     ) -> Result<Turn, NoMemory>
-        requires right { IsRight (T.meaning self.old.theory) (T.followed self.old.theory)
-            self.old.state self.old.defined }
+        requires may { MayTurn (T.meaning self.old.theory) (T.followed self.old.theory)
+            self.old.state self.old.defined assumed.now stop budget.now }
         requires fixpoint { IsFixpoint self.old.state.store self.old.state.trail.steps }
-        requires over { All (IsOver self.old.state.trail.vars) assumed.now }
-        requires first { AreAssumedFirst assumed.now self.old.state.trail.steps }
-        requires room { HasRoom stop budget.now }
         ensures right { OnOk result (IsRight (T.meaning self.new.theory)
             (T.followed self.new.theory) self.new.state self.new.defined) }
         ensures same { MeansTheSame (T.meaning self.old.theory) (T.meaning self.new.theory) }
@@ -88,11 +80,8 @@ impl<T: Theory> Engine<T> {
         budget: &mut Budget,
         stop: u32,
     ) -> Result<Answer, NoMemory>
-        requires right { IsRight (T.meaning self.old.theory) (T.followed self.old.theory)
-            self.old.state self.old.defined }
-        requires over { All (IsOver self.old.state.trail.vars) assumed.now }
-        requires first { AreAssumedFirst assumed.now self.old.state.trail.steps }
-        requires room { HasRoom stop budget.old }
+        requires may { MayTurn (T.meaning self.old.theory) (T.followed self.old.theory)
+            self.old.state self.old.defined assumed.now stop budget.old }
         ensures right { OnOk result (IsRight (T.meaning self.new.theory)
             (T.followed self.new.theory) self.new.state self.new.defined) }
         ensures same { MeansTheSame (T.meaning self.old.theory) (T.meaning self.new.theory) }

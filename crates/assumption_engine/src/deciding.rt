@@ -6,8 +6,8 @@ ghost use Rattle.propagator.specs.Fixpoint.{IsFixpoint};
 ghost use Rattle.assumption_engine.specs.Theory.{MeansTheSame};
 ghost use Rattle.assumption_engine.specs.Engine.{GoesOn};
 ghost use Rattle.assumption_engine.specs.Engine.{IsRight};
-ghost use Rattle.assumption_engine.specs.Answer.{HasRoom, IsTurn};
-ghost use Rattle.search_state.specs.Assumed.{AreTrue, IsNotTrueAt, AreAssumedFirst};
+ghost use Rattle.assumption_engine.specs.Answer.{HasRoom, IsTurn, MayTurn};
+ghost use Rattle.search_state.specs.Assumed.{AreTrue, IsNotTrueAt};
 
 use crate::answer::{Answer, Turn};
 use crate::check::Check;
@@ -29,12 +29,9 @@ impl<T: Theory> Engine<T> {
         budget: &Budget,
         stop: u32,
     ) -> Result<Turn, NoMemory>
-        requires right { IsRight (T.meaning self.old.theory) (T.followed self.old.theory)
-            self.old.state self.old.defined }
+        requires may { MayTurn (T.meaning self.old.theory) (T.followed self.old.theory)
+            self.old.state self.old.defined assumed.now stop budget.now }
         requires fixpoint { IsFixpoint self.old.state.store self.old.state.trail.steps }
-        requires over { All (IsOver self.old.state.trail.vars) assumed.now }
-        requires first { AreAssumedFirst assumed.now self.old.state.trail.steps }
-        requires room { HasRoom stop budget.now }
         ensures right { OnOk result (IsRight (T.meaning self.new.theory)
             (T.followed self.new.theory) self.new.state self.new.defined) }
         ensures same { MeansTheSame (T.meaning self.old.theory) (T.meaning self.new.theory) }
@@ -62,12 +59,9 @@ impl<T: Theory> Engine<T> {
         budget: &Budget,
         stop: u32,
     ) -> Result<Turn, NoMemory>
-        requires right { IsRight (T.meaning self.old.theory) (T.followed self.old.theory)
-            self.old.state self.old.defined }
-        requires over { All (IsOver self.old.state.trail.vars) assumed.now }
-        requires first { AreAssumedFirst assumed.now self.old.state.trail.steps }
+        requires may { MayTurn (T.meaning self.old.theory) (T.followed self.old.theory)
+            self.old.state self.old.defined assumed.now stop budget.now }
         requires next { IsNotTrueAt self.old.state.trail.steps assumed.now at }
-        requires room { HasRoom stop budget.now }
         ensures right { OnOk result (IsRight (T.meaning self.new.theory)
             (T.followed self.new.theory) self.new.state self.new.defined) }
         ensures same { MeansTheSame (T.meaning self.old.theory) (T.meaning self.new.theory) }

@@ -1,18 +1,18 @@
-use Rattle.std.proofs.Common.{[], length, get_or, inl, inr, refl, sym, ap, subst, ◌∙◌}
+use Rattle.std.proofs.Common.{get_or, inl, refl, sym, ap, subst, ◌∙◌}
 use Rattle.std.proofs.lemmas.List.Elements.{Contains-get_or}
 use Rattle.assumption_engine.proofs.AnswerLemmas.{core_of, room_below}
 use Rattle.assumption_engine.proofs.GoingLemmas.{goes_on_still}
-use Rattle.assumption_engine.proofs.ProgressLemmas.{weight_longer}
 use Rattle.assumption_engine.proofs.SameLemmas.{right_pushed, same_itself}
 use Rattle.search_state.specs.Assumed.{AreAssumedFirst}
 use Rattle.search_state.proofs.AssumedLemmas.{not_true, is_no, first_push}
+use Rattle.assumption_engine.proofs.StepLemmas.{going_decided}
 use Rattle.assumption_engine.proofs.engine.Engine.assume.Goals as goal
 
 pub returns-in-Unset-clause-right : goal.returns-in-Unset-clause-right
 returns-in-Unset-clause-right g c =
     right_pushed (g.T.Theory.meaning c.args.self.now.theory)
     (g.T.Theory.followed c.args.self.now.theory) c.args.self.now.state c.decide.new.self
-    c.args.self.now.defined _ c.requires.right c.decide.ensures.ready c.decide.ensures.store
+    c.args.self.now.defined _ c.requires.may.right c.decide.ensures.ready c.decide.ensures.store
     c.decide.ensures.trail
 
 pub returns-in-Unset-clause-same : goal.returns-in-Unset-clause-same
@@ -30,24 +30,14 @@ returns-in-Unset-clause-on g c =
 
 pub returns-in-Unset-clause-turn : goal.returns-in-Unset-clause-turn
 returns-in-Unset-clause-turn g c =
-    record {
-      nearer =
-          inr (record {
-            same = ap length c.decide.ensures.store;
-            more =
-                weight_longer c.args.self.now.state.trail c.decide.new.self.trail _ []
-                (ap (λ t. t.vars) c.decide.ensures.trail)
-                (ap (λ t. t.steps) c.decide.ensures.trail);
-          });
-      below = c.requires.room.below;
-    }
+    going_decided _ c.decide.ensures.store c.decide.ensures.trail c.requires.may.room.below
 
 pub final_core-requires : goal.final_core-requires
 final_core-requires g c =
     record {
-      of_store = c.requires.right.ready.of_store;
+      of_store = c.requires.may.right.ready.of_store;
       over =
-          c.requires.over c.args.at (record { 0 = 0 }) c.requires.next.within;
+          c.requires.may.over c.args.at (record { 0 = 0 }) c.requires.next.within;
       is_false =
           is_no _
           (not_true c.args.self.now.state.trail.steps c.args.assumed.now c.args.at
@@ -58,7 +48,7 @@ final_core-requires g c =
 pub returns : goal.returns
 returns g c =
     record {
-      right = c.requires.right;
+      right = c.requires.may.right;
       same = same_itself (g.T.Theory.meaning c.args.self.now.theory);
       defined = refl;
       on =
@@ -71,7 +61,7 @@ returns g c =
                 core_of (g.T.Theory.meaning c.args.self.now.theory)
                 (g.T.Theory.followed c.args.self.now.theory) c.args.self.now.state
                 c.args.self.now.defined c.args.assumed.now _ c.final_core.new.core
-                c.requires.right c.requires.first
+                c.requires.may.right c.requires.may.first
                 (Contains-get_or c.args.assumed.now c.args.at (record { 0 = 0 })
                 c.requires.next.within)
                 (is_no _
@@ -79,6 +69,6 @@ returns g c =
                 (record { 0 = 0 }) c.requires.next)
                 (λ unset. c.in_default.not-Unset (c.value.ensures ∙ unset)))
                 c.in_ok-final_core.ensures.core c.in_ok-final_core.ensures.unmet;
-            counted = room_below c.args.stop c.args.budget.now c.requires.room;
+            counted = room_below c.args.stop c.args.budget.now c.requires.may.room;
           };
     }

@@ -3,10 +3,11 @@ use Rattle.clause_store.specs.Trail.{values_of}
 use Rattle.assumption_engine.specs.Theory.{IsSpentCheck}
 use Rattle.assumption_engine.specs.Answer.{HasGiven, IsTurn}
 use Rattle.assumption_engine.proofs.AnswerLemmas.{is_model, is_spent_inside, room_below, some_met}
-use Rattle.assumption_engine.proofs.GoingLemmas.{goes_on_still, goes_on_then, if_ok_then}
+use Rattle.assumption_engine.proofs.GoingLemmas.{goes_on_still, if_ok_then}
 use Rattle.assumption_engine.proofs.GoingLemmas.{on_ok_then}
 use Rattle.assumption_engine.proofs.SameLemmas.{given_same, right_moved, same_then}
 use Rattle.assumption_engine.proofs.TurnLemmas.{turn_given}
+use Rattle.assumption_engine.proofs.StepLemmas.{goes_on_same}
 use Rattle.assumption_engine.proofs.engine.Engine.check_total.Goals as goal
 
 pub complete_check-requires : goal.complete_check-requires
@@ -72,13 +73,7 @@ returns-in-Clause-clause-same g c =
 pub returns-in-Clause-clause-on : goal.returns-in-Clause-clause-on
 returns-in-Clause-clause-on g c =
     on_ok_then c.take_given.result c.take_given.ensures.on
-    (λ on. goes_on_then (g.T.Theory.meaning c.args.self.now.theory)
-    (g.T.Theory.meaning c.complete_check.new.self) c.args.assumed.now c.args.self.now.state
-    c.args.self.now.state c.take_given.new.self.state c.args.budget.now c.args.budget.now
-    c.args.budget.now c.complete_check.ensures.same
-    (goes_on_still (g.T.Theory.meaning c.args.self.now.theory) c.args.assumed.now
-    c.args.self.now.state c.args.self.now.state c.args.budget.now c.args.budget.now refl refl
-    refl (λ first. first)) (on c.args.assumed.now c.args.budget.now))
+    (λ on. goes_on_same c.complete_check.ensures.same (on c.args.assumed.now c.args.budget.now))
 
 pub returns-in-Clause-clause-turn : goal.returns-in-Clause-clause-turn
 returns-in-Clause-clause-turn g c =

@@ -1,9 +1,9 @@
-use Rattle.std.proofs.Common.{[], length, inr, refl, sym, ap, subst}
+use Rattle.std.proofs.Common.{inr, refl, sym, ap, subst}
 use Rattle.assumption_engine.proofs.GoingLemmas.{goes_on_still}
-use Rattle.assumption_engine.proofs.ProgressLemmas.{weight_longer}
 use Rattle.assumption_engine.proofs.SameLemmas.{right_pushed, same_itself}
 use Rattle.search_state.specs.Assumed.{AreAssumedFirst}
 use Rattle.search_state.proofs.AssumedLemmas.{first_push}
+use Rattle.assumption_engine.proofs.StepLemmas.{going_decided}
 use Rattle.assumption_engine.proofs.engine.Engine.decide.Goals as goal
 
 pub returns-clause-right : goal.returns-clause-right
@@ -27,14 +27,4 @@ returns-clause-on g c =
 
 pub returns-clause-turn : goal.returns-clause-turn
 returns-clause-turn g c =
-    record {
-      nearer =
-          inr (record {
-            same = ap length c.decide.ensures.store;
-            more =
-                weight_longer c.args.self.now.state.trail c.decide.new.self.trail _ []
-                (ap (λ t. t.vars) c.decide.ensures.trail)
-                (ap (λ t. t.steps) c.decide.ensures.trail);
-          });
-      below = c.requires.room.below;
-    }
+    going_decided _ c.decide.ensures.store c.decide.ensures.trail c.requires.room.below

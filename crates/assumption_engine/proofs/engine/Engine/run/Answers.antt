@@ -1,22 +1,32 @@
-use Rattle.std.proofs.Common.{◌+◌, ◌^◌, length, refl, ap, subst, ◌∙◌, arith}
+use Rattle.std.proofs.Common.{◌+◌, ◌^◌, length, refl, sym, ap, subst, ◌∙◌, arith}
+use Rattle.std.specs.Prelude.{All}
+use Rattle.clause_store.specs.Clause.{IsOver}
 use Rattle.assumption_engine.specs.Answer.{HasEnded, IsTurn}
-use Rattle.assumption_engine.specs.Engine.{HasCounted}
 use Rattle.assumption_engine.specs.declared.answer.Turn.TheVariants.{Ended}
-use Rattle.assumption_engine.proofs.GoingLemmas.{counted_then, goes_on_then}
+use Rattle.assumption_engine.proofs.GoingLemmas.{goes_on_then}
 use Rattle.assumption_engine.proofs.SameLemmas.{same_then}
 use Rattle.assumption_engine.proofs.TurnLemmas.{few_came, fewer_turns, turn_then}
+use Rattle.assumption_engine.proofs.StepLemmas.{counted_on}
 use Rattle.assumption_engine.proofs.engine.Engine.run.Goals as goal
+
+pub turn-requires : goal.turn-requires
+turn-requires g c =
+    record {
+      may =
+          record {
+            right = c.turns.invariant.right;
+            over =
+                subst (λ n. All (IsOver n) c.args.assumed.now) (sym c.turns.invariant.on.vars)
+                c.requires.may.over;
+            first = c.turns.invariant.on.first c.requires.may.first;
+            room = c.turns.invariant.room;
+          };
+    }
 
 pub returns-in_err-turn-clause-counted : goal.returns-in_err-turn-clause-counted
 returns-in_err-turn-clause-counted g c =
-    subst
-    (λ d. HasCounted (g.T.Theory.meaning c.args.self.now.theory) d c.args.self.now.state.store
-    c.args.budget.now c.turn.new.budget) c.turns.invariant.defined
-    (counted_then (g.T.Theory.meaning c.args.self.now.theory)
-    (g.T.Theory.meaning c.turns.self.theory) (g.T.Theory.followed c.turns.self.theory)
-    c.turns.self.defined c.args.assumed.now c.args.self.now.state c.turns.self.state
-    c.args.budget.now c.turns.budget c.turn.new.budget c.turns.invariant.same
-    c.turns.invariant.right c.turns.invariant.on c.turn.ensures.counted)
+    counted_on c.turns.invariant.defined c.turns.invariant.same c.turns.invariant.right
+    c.turns.invariant.on c.turn.ensures.counted
 
 pub turns-smaller : goal.turns-smaller
 turns-smaller g c =
@@ -75,14 +85,8 @@ returns-in-Ended-clause-on g c =
 
 pub returns-in-Ended-clause-counted : goal.returns-in-Ended-clause-counted
 returns-in-Ended-clause-counted g c =
-    subst
-    (λ d. HasCounted (g.T.Theory.meaning c.args.self.now.theory) d c.args.self.now.state.store
-    c.args.budget.now c.turn.new.budget) c.turns.invariant.defined
-    (counted_then (g.T.Theory.meaning c.args.self.now.theory)
-    (g.T.Theory.meaning c.turns.self.theory) (g.T.Theory.followed c.turns.self.theory)
-    c.turns.self.defined c.args.assumed.now c.args.self.now.state c.turns.self.state
-    c.args.budget.now c.turns.budget c.turn.new.budget c.turns.invariant.same
-    c.turns.invariant.right c.turns.invariant.on c.turn.ensures.counted)
+    counted_on c.turns.invariant.defined c.turns.invariant.same c.turns.invariant.right
+    c.turns.invariant.on c.turn.ensures.counted
 
 pub returns-in-Ended-clause-answer : goal.returns-in-Ended-clause-answer
 returns-in-Ended-clause-answer g c =

@@ -1,26 +1,30 @@
-use Rattle.std.proofs.Common.{◌+◌, length, refl, sym, ap, subst}
+use Rattle.std.proofs.Common.{◌+◌, length, sym, ap, subst}
 use Rattle.std.specs.Prelude.{All}
 use Rattle.clause_store.specs.Clause.{IsOver}
 use Rattle.assumption_engine.specs.Answer.{HasEnded}
-use Rattle.assumption_engine.specs.Engine.{HasCounted}
-use Rattle.assumption_engine.proofs.GoingLemmas.{counted_then}
-use Rattle.assumption_engine.proofs.GoingLemmas.{goes_on_still, goes_on_then, if_ok_then}
+use Rattle.assumption_engine.proofs.GoingLemmas.{goes_on_then, if_ok_then}
 use Rattle.assumption_engine.proofs.GoingLemmas.{on_ok_then}
 use Rattle.assumption_engine.proofs.SameLemmas.{same_then}
 use Rattle.assumption_engine.proofs.TurnLemmas.{ended_at_slice}
-use Rattle.search_state.specs.Assumed.{AreAssumedFirst}
-use Rattle.search_state.proofs.AssumedLemmas.{first_at_start, first_after_back}
+use Rattle.search_state.proofs.AssumedLemmas.{first_at_start}
+use Rattle.assumption_engine.proofs.StepLemmas.{counted_on, goes_on_back}
 use Rattle.assumption_engine.proofs.engine.Engine.search.Goals as goal
 
-pub run-requires-clause-over : goal.run-requires-clause-over
-run-requires-clause-over g c =
-    subst (λ t. All (IsOver t.vars) c.args.assumed.now) (sym c.go_back.ensures.back.trail)
-    c.requires.over
-
-pub run-requires-clause-first : goal.run-requires-clause-first
-run-requires-clause-first g c =
-    first_at_start c.args.assumed.now c.go_back.new.self.state.trail
-    c.go_back.ensures.back.is_trail c.go_back.ensures.back.present
+pub run-requires : goal.run-requires
+run-requires g c =
+    record {
+      may =
+          record {
+            right = c.go_back.ensures.right;
+            over =
+                subst (λ t. All (IsOver t.vars) c.args.assumed.now) (sym c.go_back.ensures.back.trail)
+                c.requires.over;
+            first =
+                first_at_start c.args.assumed.now c.go_back.new.self.state.trail
+                c.go_back.ensures.back.is_trail c.go_back.ensures.back.present;
+            room = c.stop_of-stop.ensures.room;
+          };
+    }
 
 pub returns-clause-same : goal.returns-clause-same
 returns-clause-same g c =
@@ -34,32 +38,12 @@ returns-clause-on g c =
     (λ on. goes_on_then (g.T.Theory.meaning c.args.self.now.theory)
     (g.T.Theory.meaning c.go_back.new.self.theory) c.args.assumed.now c.args.self.now.state
     c.go_back.new.self.state c.run.new.self.state c.args.budget.now c.args.budget.now
-    c.run.new.budget c.go_back.ensures.same
-    (goes_on_still (g.T.Theory.meaning c.args.self.now.theory) c.args.assumed.now
-    c.args.self.now.state c.go_back.new.self.state c.args.budget.now c.args.budget.now
-    (ap (λ t. t.vars) c.go_back.ensures.back.trail) c.go_back.ensures.back.store refl
-    (λ first. subst (λ t. AreAssumedFirst c.args.assumed.now t.steps)
-    (sym c.go_back.ensures.back.trail)
-    (first_after_back c.args.assumed.now c.args.self.now.state.trail 0
-    c.go_back.ensures.back.was_trail first))) on)
+    c.run.new.budget c.go_back.ensures.same (goes_on_back c.go_back.ensures.back) on)
 
 pub returns-clause-counted : goal.returns-clause-counted
 returns-clause-counted g c =
-    subst
-    (λ d. HasCounted (g.T.Theory.meaning c.args.self.now.theory) d c.args.self.now.state.store
-    c.args.budget.now c.run.new.budget) c.go_back.ensures.defined
-    (counted_then (g.T.Theory.meaning c.args.self.now.theory)
-    (g.T.Theory.meaning c.go_back.new.self.theory) (g.T.Theory.followed c.go_back.new.self.theory)
-    c.go_back.new.self.defined c.args.assumed.now c.args.self.now.state
-    c.go_back.new.self.state c.args.budget.now c.args.budget.now c.run.new.budget
-    c.go_back.ensures.same c.go_back.ensures.right
-    (goes_on_still (g.T.Theory.meaning c.args.self.now.theory) c.args.assumed.now
-    c.args.self.now.state c.go_back.new.self.state c.args.budget.now c.args.budget.now
-    (ap (λ t. t.vars) c.go_back.ensures.back.trail) c.go_back.ensures.back.store refl
-    (λ first. subst (λ t. AreAssumedFirst c.args.assumed.now t.steps)
-    (sym c.go_back.ensures.back.trail)
-    (first_after_back c.args.assumed.now c.args.self.now.state.trail 0
-    c.go_back.ensures.back.was_trail first))) c.run.ensures.counted)
+    counted_on {assumed = c.args.assumed.now} c.go_back.ensures.defined c.go_back.ensures.same
+    c.go_back.ensures.right (goes_on_back c.go_back.ensures.back) c.run.ensures.counted
 
 pub returns-clause-answer : goal.returns-clause-answer
 returns-clause-answer g c =

@@ -1,5 +1,6 @@
-use Rattle.std.proofs.Common.{refl}
-use Rattle.std.specs.Prelude.{List}
+use Rattle.std.proofs.Common.{refl, subst, sym}
+use Rattle.std.specs.Prelude.{List, All}
+use Rattle.clause_store.specs.Clause.{IsOver}
 use Rattle.clause_store.specs.declared.literal.Lit.{Lit}
 use Rattle.assumption_engine.specs.Answer.{IsTurn}
 use Rattle.assumption_engine.proofs.GoingLemmas.{counted_none, counted_then}
@@ -15,7 +16,7 @@ pub learn_from-requires-clause-right : goal.learn_from-requires-clause-right
 learn_from-requires-clause-right g c =
     right_extended (g.T.Theory.meaning c.args.self.now.theory)
     (g.T.Theory.followed c.args.self.now.theory) c.args.self.now.state c.propagate.new.self
-    c.args.self.now.defined c.requires.right c.propagate.ensures.ready c.propagate.ensures.store
+    c.args.self.now.defined c.requires.may.right c.propagate.ensures.ready c.propagate.ensures.store
     c.propagate.ensures.extends
 
 pub returns-in-Some-clause-on : goal.returns-in-Some-clause-on
@@ -40,7 +41,7 @@ returns-in-Some-clause-counted g c =
     (same_itself (g.T.Theory.meaning c.args.self.now.theory))
     (right_extended (g.T.Theory.meaning c.args.self.now.theory)
     (g.T.Theory.followed c.args.self.now.theory) c.args.self.now.state c.propagate.new.self
-    c.args.self.now.defined c.requires.right c.propagate.ensures.ready c.propagate.ensures.store
+    c.args.self.now.defined c.requires.may.right c.propagate.ensures.ready c.propagate.ensures.store
     c.propagate.ensures.extends)
     (goes_on_still (g.T.Theory.meaning c.args.self.now.theory) c.args.assumed.now
     c.args.self.now.state c.propagate.new.self c.args.budget.now c.args.budget.now
@@ -66,17 +67,22 @@ returns-in-Some-clause-turn g c =
     c.propagate.ensures.extends.added c.propagate.ensures.extends.vars
     c.propagate.ensures.extends.steps) (is c.args.assumed.now))
 
-pub ask_theory-requires-clause-right : goal.ask_theory-requires-clause-right
-ask_theory-requires-clause-right g c =
-    right_extended (g.T.Theory.meaning c.args.self.now.theory)
-    (g.T.Theory.followed c.args.self.now.theory) c.args.self.now.state c.propagate.new.self
-    c.args.self.now.defined c.requires.right c.propagate.ensures.ready c.propagate.ensures.store
-    c.propagate.ensures.extends
-
-pub ask_theory-requires-clause-first : goal.ask_theory-requires-clause-first
-ask_theory-requires-clause-first g c =
-    first_extended c.args.assumed.now c.args.self.now.state.trail c.propagate.new.self.trail
-    c.propagate.ensures.extends c.requires.first
+pub ask_theory-requires-clause-may : goal.ask_theory-requires-clause-may
+ask_theory-requires-clause-may g c =
+    record {
+      right =
+          right_extended (g.T.Theory.meaning c.args.self.now.theory)
+          (g.T.Theory.followed c.args.self.now.theory) c.args.self.now.state c.propagate.new.self
+          c.args.self.now.defined c.requires.may.right c.propagate.ensures.ready
+          c.propagate.ensures.store c.propagate.ensures.extends;
+      over =
+          subst (λ n. All (IsOver n) c.args.assumed.now) (sym c.propagate.ensures.extends.vars)
+          c.requires.may.over;
+      first =
+          first_extended c.args.assumed.now c.args.self.now.state.trail c.propagate.new.self.trail
+          c.propagate.ensures.extends c.requires.may.first;
+      room = c.requires.may.room;
+    }
 
 pub returns-in-None-clause-on : goal.returns-in-None-clause-on
 returns-in-None-clause-on g c =
