@@ -8,7 +8,7 @@ use Rattle.clause_store.specs.Standing.{Followed}
 use Rattle.clause_store.specs.Trail.{Assigned, IsTotal, value_of, values_of}
 use Rattle.assumption_engine.specs.Theory.{Meaning, IsSpentCheck}
 use Rattle.search_state.specs.Assumed.{AreAssumedFirst}
-use Rattle.assumption_engine.specs.Engine.{IsModelOf, IsRight}
+use Rattle.assumption_engine.specs.Engine.{GoesOn, IsModelOf, IsRight}
 use Rattle.assumption_engine.specs.Progress.{IsNearer}
 use Rattle.assumption_engine.specs.declared.answer.Answer.{Answer}
 use Rattle.assumption_engine.specs.declared.answer.Answer.TheVariants.{Model, Core, Spent}
@@ -93,6 +93,14 @@ IsTurn meaning defined assumed stop old new after (Ended answer) =
 pub record HasRoom (stop : ℕ) (before : Counted) : Type 0 where
   pub below : length before.units < stop
   pub within : stop ≤ before.limit
+
+-- a turn was taken: all is right after it, the search went on, and it does what it says
+pub record HasTurned (one two : Meaning) (followed : List Followed) (defined there : List (List Lit))
+    (assumed : List Lit) (stop : ℕ) (old new : State) (before after : Counted) (turn : Turn) :
+    Type 0 where
+  pub right : IsRight two followed new there
+  pub on : GoesOn one assumed old new before after
+  pub does : IsTurn one defined assumed stop old new after turn
 
 -- a turn may begin: all is right, the assumed literals are over the variables and come first, and
 -- one more clause may be counted

@@ -4,7 +4,7 @@ ghost use Rattle.clause_store.specs.Clause.{IsOver};
 ghost use Rattle.propagator.specs.Fixpoint.{IsFixpoint};
 ghost use Rattle.assumption_engine.specs.Theory.{MeansTheSame};
 ghost use Rattle.assumption_engine.specs.Engine.{GoesOn, HasCounted, IsRight};
-ghost use Rattle.assumption_engine.specs.Answer.{HasEnded, IsStop, IsTurn, MayTurn};
+ghost use Rattle.assumption_engine.specs.Answer.{HasEnded, HasTurned, IsStop, MayTurn};
 
 use crate::answer::{Answer, Turn};
 use crate::engine::Engine;
@@ -26,16 +26,13 @@ impl<T: Theory> Engine<T> {
     ) -> Result<Turn, NoMemory>
         requires may { MayTurn (T.meaning self.old.theory) (T.followed self.old.theory)
             self.old.state self.old.defined assumed.now stop budget.old }
-        ensures right { OnOk result (IsRight (T.meaning self.new.theory)
-            (T.followed self.new.theory) self.new.state self.new.defined) }
         ensures same { MeansTheSame (T.meaning self.old.theory) (T.meaning self.new.theory) }
         ensures defined { self.new.defined ≡ self.old.defined }
-        ensures on { OnOk result (GoesOn (T.meaning self.old.theory) assumed.now self.old.state
-            self.new.state budget.old budget.new) }
+        ensures turn { IfOk result (HasTurned (T.meaning self.old.theory)
+            (T.meaning self.new.theory) (T.followed self.new.theory) self.old.defined
+            self.new.defined assumed.now stop self.old.state self.new.state budget.old budget.new) }
         ensures counted { HasCounted (T.meaning self.old.theory) self.old.defined
             self.old.state.store budget.old budget.new }
-        ensures turn { IfOk result (IsTurn (T.meaning self.old.theory) self.old.defined
-            assumed.now stop self.old.state self.new.state budget.new) }
     {
         match self.state.propagate() {
             Some(conflict) => self.learn_from(alloc, conflict, budget, stop),
@@ -54,14 +51,11 @@ impl<T: Theory> Engine<T> {
         requires may { MayTurn (T.meaning self.old.theory) (T.followed self.old.theory)
             self.old.state self.old.defined assumed.now stop budget.now }
         requires fixpoint { IsFixpoint self.old.state.store self.old.state.trail.steps }
-        ensures right { OnOk result (IsRight (T.meaning self.new.theory)
-            (T.followed self.new.theory) self.new.state self.new.defined) }
         ensures same { MeansTheSame (T.meaning self.old.theory) (T.meaning self.new.theory) }
         ensures defined { self.new.defined ≡ self.old.defined }
-        ensures on { OnOk result (GoesOn (T.meaning self.old.theory) assumed.now self.old.state
-            self.new.state budget.now budget.now) }
-        ensures turn { IfOk result (IsTurn (T.meaning self.old.theory) self.old.defined
-            assumed.now stop self.old.state self.new.state budget.now) }
+        ensures turn { IfOk result (HasTurned (T.meaning self.old.theory)
+            (T.meaning self.new.theory) (T.followed self.new.theory) self.old.defined
+            self.new.defined assumed.now stop self.old.state self.new.state budget.now budget.now) }
     {
         match self
             .theory
@@ -82,16 +76,14 @@ impl<T: Theory> Engine<T> {
     ) -> Result<Answer, NoMemory>
         requires may { MayTurn (T.meaning self.old.theory) (T.followed self.old.theory)
             self.old.state self.old.defined assumed.now stop budget.old }
-        ensures right { OnOk result (IsRight (T.meaning self.new.theory)
-            (T.followed self.new.theory) self.new.state self.new.defined) }
         ensures same { MeansTheSame (T.meaning self.old.theory) (T.meaning self.new.theory) }
         ensures defined { self.new.defined ≡ self.old.defined }
-        ensures on { OnOk result (GoesOn (T.meaning self.old.theory) assumed.now self.old.state
-            self.new.state budget.old budget.new) }
+        ensures answer { IfOk result (λ answer. HasTurned (T.meaning self.old.theory)
+            (T.meaning self.new.theory) (T.followed self.new.theory) self.old.defined
+            self.new.defined assumed.now stop self.old.state self.new.state budget.old budget.new
+            (Turn.Ended answer)) }
         ensures counted { HasCounted (T.meaning self.old.theory) self.old.defined
             self.old.state.store budget.old budget.new }
-        ensures answer { IfOk result (HasEnded (T.meaning self.old.theory) self.old.defined
-            assumed.now stop self.new.state budget.new) }
     {
         'turns: loop {
             match self.turn(alloc, assumed, budget, stop)? {

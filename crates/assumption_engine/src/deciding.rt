@@ -1,12 +1,11 @@
 // What an engine decides next where the clauses and the theory have nothing to say.
-ghost use Rattle.std.specs.Prelude.{◌≡◌, All, IfOk, OnOk};
+ghost use Rattle.std.specs.Prelude.{◌≡◌, All, IfOk};
 ghost use Rattle.clause_store.specs.Clause.{IsOver};
 ghost use Rattle.clause_store.specs.Trail.{IsTotal, value_of};
 ghost use Rattle.propagator.specs.Fixpoint.{IsFixpoint};
 ghost use Rattle.assumption_engine.specs.Theory.{MeansTheSame};
-ghost use Rattle.assumption_engine.specs.Engine.{GoesOn};
 ghost use Rattle.assumption_engine.specs.Engine.{IsRight};
-ghost use Rattle.assumption_engine.specs.Answer.{HasRoom, IsTurn, MayTurn};
+ghost use Rattle.assumption_engine.specs.Answer.{HasRoom, HasTurned, MayTurn};
 ghost use Rattle.search_state.specs.Assumed.{AreTrue, IsNotTrueAt};
 
 use crate::answer::{Answer, Turn};
@@ -32,14 +31,11 @@ impl<T: Theory> Engine<T> {
         requires may { MayTurn (T.meaning self.old.theory) (T.followed self.old.theory)
             self.old.state self.old.defined assumed.now stop budget.now }
         requires fixpoint { IsFixpoint self.old.state.store self.old.state.trail.steps }
-        ensures right { OnOk result (IsRight (T.meaning self.new.theory)
-            (T.followed self.new.theory) self.new.state self.new.defined) }
         ensures same { MeansTheSame (T.meaning self.old.theory) (T.meaning self.new.theory) }
         ensures defined { self.new.defined ≡ self.old.defined }
-        ensures on { OnOk result (GoesOn (T.meaning self.old.theory) assumed.now self.old.state
-            self.new.state budget.now budget.now) }
-        ensures turn { IfOk result (IsTurn (T.meaning self.old.theory) self.old.defined
-            assumed.now stop self.old.state self.new.state budget.now) }
+        ensures turn { IfOk result (HasTurned (T.meaning self.old.theory)
+            (T.meaning self.new.theory) (T.followed self.new.theory) self.old.defined
+            self.new.defined assumed.now stop self.old.state self.new.state budget.now budget.now) }
     {
         match first_not_true(&self.state.trail, assumed) {
             Some(at) => self.assume(alloc, assumed, at, budget, stop),
@@ -62,14 +58,11 @@ impl<T: Theory> Engine<T> {
         requires may { MayTurn (T.meaning self.old.theory) (T.followed self.old.theory)
             self.old.state self.old.defined assumed.now stop budget.now }
         requires next { IsNotTrueAt self.old.state.trail.steps assumed.now at }
-        ensures right { OnOk result (IsRight (T.meaning self.new.theory)
-            (T.followed self.new.theory) self.new.state self.new.defined) }
         ensures same { MeansTheSame (T.meaning self.old.theory) (T.meaning self.new.theory) }
         ensures defined { self.new.defined ≡ self.old.defined }
-        ensures on { OnOk result (GoesOn (T.meaning self.old.theory) assumed.now self.old.state
-            self.new.state budget.now budget.now) }
-        ensures turn { IfOk result (IsTurn (T.meaning self.old.theory) self.old.defined
-            assumed.now stop self.old.state self.new.state budget.now) }
+        ensures turn { IfOk result (HasTurned (T.meaning self.old.theory)
+            (T.meaning self.new.theory) (T.followed self.new.theory) self.old.defined
+            self.new.defined assumed.now stop self.old.state self.new.state budget.now budget.now) }
     {
         let lit = assumed[at];
         if let Value::Unset = self.state.trail.value(lit) {
@@ -89,14 +82,11 @@ impl<T: Theory> Engine<T> {
         requires unset { value_of self.old.state.trail.steps lit ≡ Value.Unset }
         requires assumed { AreTrue self.old.state.trail.steps assumed.now }
         requires room { HasRoom stop budget.now }
-        ensures right { IsRight (T.meaning self.new.theory) (T.followed self.new.theory)
-            self.new.state self.new.defined }
         ensures same { MeansTheSame (T.meaning self.old.theory) (T.meaning self.new.theory) }
         ensures defined { self.new.defined ≡ self.old.defined }
-        ensures on { GoesOn (T.meaning self.old.theory) assumed.now self.old.state
-            self.new.state budget.now budget.now }
-        ensures turn { IsTurn (T.meaning self.old.theory) self.old.defined assumed.now stop
-            self.old.state self.new.state budget.now result }
+        ensures turn { HasTurned (T.meaning self.old.theory) (T.meaning self.new.theory)
+            (T.followed self.new.theory) self.old.defined self.new.defined assumed.now stop
+            self.old.state self.new.state budget.now budget.now result }
     {
         self.state.decide(lit);
         Turn::Going
@@ -117,14 +107,11 @@ impl<T: Theory> Engine<T> {
         requires assumed { AreTrue self.old.state.trail.steps assumed.now }
         requires total { IsTotal self.old.state.trail }
         requires room { HasRoom stop budget.now }
-        ensures right { OnOk result (IsRight (T.meaning self.new.theory)
-            (T.followed self.new.theory) self.new.state self.new.defined) }
         ensures same { MeansTheSame (T.meaning self.old.theory) (T.meaning self.new.theory) }
         ensures defined { self.new.defined ≡ self.old.defined }
-        ensures on { OnOk result (GoesOn (T.meaning self.old.theory) assumed.now self.old.state
-            self.new.state budget.now budget.now) }
-        ensures turn { IfOk result (IsTurn (T.meaning self.old.theory) self.old.defined
-            assumed.now stop self.old.state self.new.state budget.now) }
+        ensures turn { IfOk result (HasTurned (T.meaning self.old.theory)
+            (T.meaning self.new.theory) (T.followed self.new.theory) self.old.defined
+            self.new.defined assumed.now stop self.old.state self.new.state budget.now budget.now) }
     {
         let limit = budget.limit();
         match self

@@ -2,7 +2,6 @@
 ghost use Rattle.std.specs.Prelude.{◌≡◌, ◌≤◌, ◌<◌, List, OnOk, IfOk, length};
 ghost use Rattle.clause_store.specs.declared.literal.Lit.{Lit};
 ghost use Rattle.clause_store.specs.Standing.{IsConflict};
-ghost use Rattle.clause_store.specs.Trail.{value_of};
 ghost use Rattle.propagator.specs.Fixpoint.{IsFixpoint};
 ghost use Rattle.assumption_engine.specs.Theory.{MeansTheSame};
 ghost use Rattle.assumption_engine.specs.Engine.{GoesOn, HasCounted, IsLearned, IsRight, Taught};
@@ -85,7 +84,7 @@ impl<T: Theory> Engine<T> {
         Ok(())
     }
 
-    /// Counts what was learned, unless its asserting literal was assigned by now.
+    /// Counts what was learned and puts it last, unless its asserting literal was assigned by now.
     fn take_learned(
         &mut self,
         alloc: Global,
@@ -111,37 +110,14 @@ impl<T: Theory> Engine<T> {
             self.old.learned.asserting budget.new) }
     {
         match self.state.trail.value(self.learned.asserting) {
-            Value::Unset => self.count(alloc, budget, stop),
+            Value::Unset => {
+                know_trail(&self.state.trail);
+                budget.count(alloc, self.learned.clause.as_slice())?;
+                self.state.add(alloc, self.learned.clause.as_slice())?;
+                Ok(turn_after(budget, stop))
+            }
             _ => Ok(Turn::Going),
         }
-    }
-
-    /// Counts what was learned and puts it last.
-    fn count(&mut self, alloc: Global, budget: &mut Budget, stop: u32) -> Result<Turn, NoMemory>
-        requires right { IsRight (T.meaning self.old.theory) (T.followed self.old.theory)
-            self.old.state self.old.defined }
-        requires fixpoint { IsFixpoint self.old.state.store self.old.state.trail.steps }
-        requires learned { IsLearned self.old.state.store self.old.state.trail
-            self.old.learned.clause self.old.learned.asserting }
-        requires unset { value_of self.old.state.trail.steps self.old.learned.asserting
-            ≡ Value.Unset }
-        requires room { HasRoom stop budget.old }
-        ensures right { OnOk result (IsRight (T.meaning self.new.theory)
-            (T.followed self.new.theory) self.new.state self.new.defined) }
-        ensures theory { self.new.theory ≡ self.old.theory }
-        ensures defined { self.new.defined ≡ self.old.defined }
-        ensures trail { self.new.state.trail ≡ self.old.state.trail }
-        ensures on { OnOk result ((assumed : List Lit) → GoesOn (T.meaning self.old.theory)
-            assumed self.old.state self.new.state budget.old budget.new) }
-        ensures counted { HasCounted (T.meaning self.old.theory) self.old.defined
-            self.old.state.store budget.old budget.new }
-        ensures turn { IfOk result (HasTaken stop self.old.state self.new.state
-            self.old.learned.asserting budget.new) }
-    {
-        know_trail(&self.state.trail);
-        budget.count(alloc, self.learned.clause.as_slice())?;
-        self.state.add(alloc, self.learned.clause.as_slice())?;
-        Ok(turn_after(budget, stop))
     }
 }
 

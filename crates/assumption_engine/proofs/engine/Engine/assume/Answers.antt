@@ -1,36 +1,20 @@
-use Rattle.std.proofs.Common.{get_or, inl, refl, sym, ap, subst, ◌∙◌}
+use Rattle.std.proofs.Common.{get_or, inl, refl, ◌∙◌}
 use Rattle.std.proofs.lemmas.List.Elements.{Contains-get_or}
 use Rattle.assumption_engine.proofs.AnswerLemmas.{core_of, room_below}
-use Rattle.assumption_engine.proofs.GoingLemmas.{goes_on_still}
-use Rattle.assumption_engine.proofs.SameLemmas.{right_pushed, same_itself}
-use Rattle.search_state.specs.Assumed.{AreAssumedFirst}
-use Rattle.search_state.proofs.AssumedLemmas.{not_true, is_no, first_push}
-use Rattle.assumption_engine.proofs.StepLemmas.{going_decided}
+use Rattle.assumption_engine.proofs.SameLemmas.{same_itself}
+use Rattle.search_state.proofs.AssumedLemmas.{not_true, is_no}
+use Rattle.assumption_engine.proofs.StepLemmas.{turned_decided, turned_still}
 use Rattle.assumption_engine.proofs.engine.Engine.assume.Goals as goal
-
-pub returns-in-Unset-clause-right : goal.returns-in-Unset-clause-right
-returns-in-Unset-clause-right g c =
-    right_pushed (g.T.Theory.meaning c.args.self.now.theory)
-    (g.T.Theory.followed c.args.self.now.theory) c.args.self.now.state c.decide.new.self
-    c.args.self.now.defined _ c.requires.may.right c.decide.ensures.ready c.decide.ensures.store
-    c.decide.ensures.trail
 
 pub returns-in-Unset-clause-same : goal.returns-in-Unset-clause-same
 returns-in-Unset-clause-same g c = same_itself (g.T.Theory.meaning c.args.self.now.theory)
 
-pub returns-in-Unset-clause-on : goal.returns-in-Unset-clause-on
-returns-in-Unset-clause-on g c =
-    goes_on_still (g.T.Theory.meaning c.args.self.now.theory) c.args.assumed.now
-    c.args.self.now.state c.decide.new.self c.args.budget.now c.args.budget.now
-    (ap (λ t. t.vars) c.decide.ensures.trail) c.decide.ensures.store refl
-    (λ first. subst (λ t. AreAssumedFirst c.args.assumed.now t.steps) (sym c.decide.ensures.trail)
-    (first_push c.args.assumed.now c.args.self.now.state.trail.steps _ first
-    (λ decided. inl (Contains-get_or c.args.assumed.now c.args.at (record { 0 = 0 })
-    c.requires.next.within))))
-
 pub returns-in-Unset-clause-turn : goal.returns-in-Unset-clause-turn
 returns-in-Unset-clause-turn g c =
-    going_decided _ c.decide.ensures.store c.decide.ensures.trail c.requires.may.room.below
+    turned_decided _ c.requires.may.right c.decide.ensures.ready c.decide.ensures.store
+    c.decide.ensures.trail
+    (inl (Contains-get_or c.args.assumed.now c.args.at (record { 0 = 0 }) c.requires.next.within))
+    c.requires.may.room.below
 
 pub final_core-requires : goal.final_core-requires
 final_core-requires g c =
@@ -48,15 +32,12 @@ final_core-requires g c =
 pub returns : goal.returns
 returns g c =
     record {
-      right = c.requires.may.right;
       same = same_itself (g.T.Theory.meaning c.args.self.now.theory);
       defined = refl;
-      on =
-          goes_on_still (g.T.Theory.meaning c.args.self.now.theory) c.args.assumed.now
-          c.args.self.now.state c.args.self.now.state c.args.budget.now c.args.budget.now refl refl
-          refl (λ first. first);
       turn =
-          record {
+          turned_still (same_itself (g.T.Theory.meaning c.args.self.now.theory))
+          c.requires.may.right c.requires.may.right.follows
+          (record {
             says =
                 core_of (g.T.Theory.meaning c.args.self.now.theory)
                 (g.T.Theory.followed c.args.self.now.theory) c.args.self.now.state
@@ -70,5 +51,5 @@ returns g c =
                 (λ unset. c.in_default.not-Unset (c.value.ensures ∙ unset)))
                 c.in_ok-final_core.ensures.core c.in_ok-final_core.ensures.unmet;
             counted = room_below c.args.stop c.args.budget.now c.requires.may.room;
-          };
+          });
     }

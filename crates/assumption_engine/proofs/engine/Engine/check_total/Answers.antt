@@ -1,13 +1,9 @@
 use Rattle.std.proofs.Common.{refl, subst, arith}
 use Rattle.clause_store.specs.Trail.{values_of}
 use Rattle.assumption_engine.specs.Theory.{IsSpentCheck}
-use Rattle.assumption_engine.specs.Answer.{HasGiven, IsTurn}
 use Rattle.assumption_engine.proofs.AnswerLemmas.{is_model, is_spent_inside, room_below, some_met}
-use Rattle.assumption_engine.proofs.GoingLemmas.{goes_on_still, if_ok_then}
-use Rattle.assumption_engine.proofs.GoingLemmas.{on_ok_then}
 use Rattle.assumption_engine.proofs.SameLemmas.{given_same, right_moved, same_then}
-use Rattle.assumption_engine.proofs.TurnLemmas.{turn_given}
-use Rattle.assumption_engine.proofs.StepLemmas.{goes_on_same}
+use Rattle.assumption_engine.proofs.StepLemmas.{turned_given, turned_still}
 use Rattle.assumption_engine.proofs.engine.Engine.check_total.Goals as goal
 
 pub complete_check-requires : goal.complete_check-requires
@@ -24,30 +20,17 @@ complete_check-requires g c =
       some = omega (arith, c.limit-limit.ensures, c.requires.room.below, c.requires.room.within);
     }
 
-pub returns-in-Accept-clause-right : goal.returns-in-Accept-clause-right
-returns-in-Accept-clause-right g c =
-    right_moved (g.T.Theory.meaning c.args.self.now.theory)
-    (g.T.Theory.meaning c.complete_check.new.self) (g.T.Theory.followed c.args.self.now.theory)
-    (g.T.Theory.followed c.complete_check.new.self) c.args.self.now.state c.args.self.now.state
-    c.args.self.now.defined c.complete_check.ensures.same c.requires.right c.requires.right.ready
-    refl refl c.complete_check.ensures.followed
-
-pub returns-in-Accept-clause-on : goal.returns-in-Accept-clause-on
-returns-in-Accept-clause-on g c =
-    goes_on_still (g.T.Theory.meaning c.args.self.now.theory) c.args.assumed.now
-    c.args.self.now.state c.args.self.now.state c.args.budget.now c.args.budget.now refl refl
-    refl (λ first. first)
-
 pub returns-in-Accept-clause-turn : goal.returns-in-Accept-clause-turn
 returns-in-Accept-clause-turn g c =
-    record {
+    turned_still c.complete_check.ensures.same c.requires.right c.complete_check.ensures.followed
+    (record {
       says =
           is_model (g.T.Theory.meaning c.args.self.now.theory)
           (g.T.Theory.followed c.args.self.now.theory) c.args.self.now.state
           c.args.self.now.defined c.args.assumed.now c.requires.right c.requires.total
           c.requires.fixpoint c.requires.over c.requires.assumed c.in-Accept.ensures.answer;
       counted = room_below c.args.stop c.args.budget.now c.requires.room;
-    }
+    })
 
 pub take_given-requires-clause-right : goal.take_given-requires-clause-right
 take_given-requires-clause-right g c =
@@ -70,41 +53,15 @@ returns-in-Clause-clause-same g c =
     (g.T.Theory.meaning c.take_given.new.self.theory) c.complete_check.ensures.same
     c.take_given.ensures.same
 
-pub returns-in-Clause-clause-on : goal.returns-in-Clause-clause-on
-returns-in-Clause-clause-on g c =
-    on_ok_then c.take_given.result c.take_given.ensures.on
-    (λ on. goes_on_same c.complete_check.ensures.same (on c.args.assumed.now c.args.budget.now))
-
 pub returns-in-Clause-clause-turn : goal.returns-in-Clause-clause-turn
 returns-in-Clause-clause-turn g c =
-    if_ok_then
-    (HasGiven (g.T.Theory.meaning c.complete_check.new.self) c.args.self.now.defined
-    c.args.self.now.state c.take_given.new.self.state)
-    (IsTurn (g.T.Theory.meaning c.args.self.now.theory) c.args.self.now.defined
-    c.args.assumed.now c.args.stop c.args.self.now.state c.take_given.new.self.state
-    c.args.budget.now) c.take_given.result c.take_given.ensures.turn
-    (λ turn is. turn_given (g.T.Theory.meaning c.args.self.now.theory)
-    (g.T.Theory.meaning c.complete_check.new.self) c.args.self.now.defined c.args.assumed.now
-    c.args.stop c.args.self.now.state c.take_given.new.self.state c.args.budget.now turn
-    c.complete_check.ensures.same (room_below c.args.stop c.args.budget.now c.requires.room) is)
-
-pub returns-in-Spent-clause-right : goal.returns-in-Spent-clause-right
-returns-in-Spent-clause-right g c =
-    right_moved (g.T.Theory.meaning c.args.self.now.theory)
-    (g.T.Theory.meaning c.complete_check.new.self) (g.T.Theory.followed c.args.self.now.theory)
-    (g.T.Theory.followed c.complete_check.new.self) c.args.self.now.state c.args.self.now.state
-    c.args.self.now.defined c.complete_check.ensures.same c.requires.right c.requires.right.ready
-    refl refl c.complete_check.ensures.followed
-
-pub returns-in-Spent-clause-on : goal.returns-in-Spent-clause-on
-returns-in-Spent-clause-on g c =
-    goes_on_still (g.T.Theory.meaning c.args.self.now.theory) c.args.assumed.now
-    c.args.self.now.state c.args.self.now.state c.args.budget.now c.args.budget.now refl refl
-    refl (λ first. first)
+    turned_given _ _ _ _ _ _ _ c.take_given.result c.complete_check.ensures.same c.requires.room
+    c.take_given.ensures.right c.take_given.ensures.on c.take_given.ensures.turn
 
 pub returns-in-Spent-clause-turn : goal.returns-in-Spent-clause-turn
 returns-in-Spent-clause-turn g c =
-    record {
+    turned_still c.complete_check.ensures.same c.requires.right c.complete_check.ensures.followed
+    (record {
       says =
           is_spent_inside (g.T.Theory.meaning c.args.self.now.theory)
           (g.T.Theory.followed c.args.self.now.theory) c.args.self.now.state
@@ -115,4 +72,4 @@ returns-in-Spent-clause-turn g c =
           (values_of c.args.self.now.state.trail) c.in-Spent.set c.in-Spent.units)
           c.limit-limit.ensures c.in-Spent.ensures.answer);
       counted = room_below c.args.stop c.args.budget.now c.requires.room;
-    }
+    })

@@ -3,10 +3,9 @@ use Rattle.std.specs.Prelude.{All}
 use Rattle.clause_store.specs.Clause.{IsOver}
 use Rattle.assumption_engine.specs.Answer.{HasEnded, IsTurn}
 use Rattle.assumption_engine.specs.declared.answer.Turn.TheVariants.{Ended}
-use Rattle.assumption_engine.proofs.GoingLemmas.{goes_on_then}
 use Rattle.assumption_engine.proofs.SameLemmas.{same_then}
 use Rattle.assumption_engine.proofs.TurnLemmas.{few_came, fewer_turns, turn_then}
-use Rattle.assumption_engine.proofs.StepLemmas.{counted_on}
+use Rattle.assumption_engine.proofs.StepLemmas.{counted_on, on_then}
 use Rattle.assumption_engine.proofs.engine.Engine.run.Goals as goal
 
 pub turn-requires : goal.turn-requires
@@ -31,21 +30,18 @@ returns-in_err-turn-clause-counted g c =
 pub turns-smaller : goal.turns-smaller
 turns-smaller g c =
     let on =
-    goes_on_then (g.T.Theory.meaning c.args.self.now.theory)
-    (g.T.Theory.meaning c.turns.self.theory) c.args.assumed.now c.args.self.now.state
-    c.turns.self.state c.turn.new.self.state c.args.budget.now c.turns.budget
-    c.turn.new.budget c.turns.invariant.same c.turns.invariant.on c.in_ok-turn.ensures.on in
+    on_then c.turns.invariant.same c.turns.invariant.on c.in_ok-turn.ensures.turn.on in
     let going =
     subst
     (IsTurn (g.T.Theory.meaning c.turns.self.theory) c.turns.self.defined c.args.assumed.now
     c.args.stop c.turns.self.state c.turn.new.self.state c.turn.new.budget) c.in-Going.is
-    c.in_ok-turn.ensures.turn in
+    c.in_ok-turn.ensures.turn.does in
     fewer_turns (length c.args.self.now.state.store + 3 ^ c.args.self.now.state.trail.vars)
     c.args.self.now.state.trail.vars c.turns.self.state c.turn.new.self.state
     c.know_trail.ensures on.vars
     (few_came (g.T.Theory.meaning c.args.self.now.theory) c.args.assumed.now
     c.args.self.now.state c.turn.new.self.state c.args.budget.now c.turn.new.budget
-    c.args.self.now.state.trail.vars on c.in_ok-turn.ensures.right.ready.over on.vars)
+    c.args.self.now.state.trail.vars on c.in_ok-turn.ensures.turn.right.ready.over on.vars)
     going.nearer
 
 pub turns-preserved : goal.turns-preserved
@@ -54,34 +50,23 @@ turns-preserved g c =
     subst
     (IsTurn (g.T.Theory.meaning c.turns.self.theory) c.turns.self.defined c.args.assumed.now
     c.args.stop c.turns.self.state c.turn.new.self.state c.turn.new.budget) c.in-Going.is
-    c.in_ok-turn.ensures.turn in
-    let limit = ap (λ b. b.limit) c.in_ok-turn.ensures.on.counts in
+    c.in_ok-turn.ensures.turn.does in
+    let limit = ap (λ b. b.limit) c.in_ok-turn.ensures.turn.on.counts in
     record {
-      right = c.in_ok-turn.ensures.right;
+      right = c.in_ok-turn.ensures.turn.right;
       same =
           same_then (g.T.Theory.meaning c.args.self.now.theory)
           (g.T.Theory.meaning c.turns.self.theory) (g.T.Theory.meaning c.turn.new.self.theory)
           c.turns.invariant.same c.turn.ensures.same;
       defined = c.turn.ensures.defined ∙ c.turns.invariant.defined;
       on =
-          goes_on_then (g.T.Theory.meaning c.args.self.now.theory)
-          (g.T.Theory.meaning c.turns.self.theory) c.args.assumed.now c.args.self.now.state
-          c.turns.self.state c.turn.new.self.state c.args.budget.now c.turns.budget
-          c.turn.new.budget c.turns.invariant.same c.turns.invariant.on
-          c.in_ok-turn.ensures.on;
+          on_then c.turns.invariant.same c.turns.invariant.on c.in_ok-turn.ensures.turn.on;
       room =
           record {
             below = going.below;
             within = omega (arith, limit, c.turns.invariant.room.within);
           };
     }
-
-pub returns-in-Ended-clause-on : goal.returns-in-Ended-clause-on
-returns-in-Ended-clause-on g c =
-    goes_on_then (g.T.Theory.meaning c.args.self.now.theory)
-    (g.T.Theory.meaning c.turns.self.theory) c.args.assumed.now c.args.self.now.state
-    c.turns.self.state c.turn.new.self.state c.args.budget.now c.turns.budget
-    c.turn.new.budget c.turns.invariant.same c.turns.invariant.on c.in_ok-turn.ensures.on
 
 pub returns-in-Ended-clause-counted : goal.returns-in-Ended-clause-counted
 returns-in-Ended-clause-counted g c =
@@ -90,14 +75,20 @@ returns-in-Ended-clause-counted g c =
 
 pub returns-in-Ended-clause-answer : goal.returns-in-Ended-clause-answer
 returns-in-Ended-clause-answer g c =
-    subst
-    (λ d. HasEnded (g.T.Theory.meaning c.args.self.now.theory) d c.args.assumed.now c.args.stop
-    c.turn.new.self.state c.turn.new.budget c.in-Ended.answer) c.turns.invariant.defined
-    (turn_then (g.T.Theory.meaning c.args.self.now.theory)
-    (g.T.Theory.meaning c.turns.self.theory) c.turns.self.defined c.args.assumed.now
-    c.args.stop c.turns.self.state c.turns.self.state c.turn.new.self.state
-    c.turn.new.budget (Ended c.in-Ended.answer) c.turns.invariant.same refl (omega arith)
-    (subst
-    (IsTurn (g.T.Theory.meaning c.turns.self.theory) c.turns.self.defined c.args.assumed.now
-    c.args.stop c.turns.self.state c.turn.new.self.state c.turn.new.budget) c.in-Ended.is
-    c.in_ok-turn.ensures.turn))
+    record {
+      right = c.in_ok-turn.ensures.turn.right;
+      on =
+          on_then c.turns.invariant.same c.turns.invariant.on c.in_ok-turn.ensures.turn.on;
+      does =
+          subst
+          (λ d. HasEnded (g.T.Theory.meaning c.args.self.now.theory) d c.args.assumed.now c.args.stop
+          c.turn.new.self.state c.turn.new.budget c.in-Ended.answer) c.turns.invariant.defined
+          (turn_then (g.T.Theory.meaning c.args.self.now.theory)
+          (g.T.Theory.meaning c.turns.self.theory) c.turns.self.defined c.args.assumed.now
+          c.args.stop c.turns.self.state c.turns.self.state c.turn.new.self.state
+          c.turn.new.budget (Ended c.in-Ended.answer) c.turns.invariant.same refl (omega arith)
+          (subst
+          (IsTurn (g.T.Theory.meaning c.turns.self.theory) c.turns.self.defined c.args.assumed.now
+          c.args.stop c.turns.self.state c.turn.new.self.state c.turn.new.budget) c.in-Ended.is
+          c.in_ok-turn.ensures.turn.does));
+    }
