@@ -157,7 +157,8 @@ turned_then {E} {one} {two} {assumed} {old} {mid} {before} {between} three follo
     record {
       right = is.right;
       on = goes_on_then one two assumed old mid new before between after same on is.on;
-      does = turn_then one two defined assumed stop old mid new after turn same store no_less is.does;
+      does =
+          turn_then one two defined assumed stop old mid new after turn same store no_less is.does;
     }
 turned_then three followed defined there stop new after (Err e) same store no_less on is = is
 

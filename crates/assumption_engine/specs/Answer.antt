@@ -95,7 +95,8 @@ pub record HasRoom (stop : ℕ) (before : Counted) : Type 0 where
   pub within : stop ≤ before.limit
 
 -- a turn was taken: all is right after it, the search went on, and it does what it says
-pub record HasTurned (one two : Meaning) (followed : List Followed) (defined there : List (List Lit))
+pub record HasTurned (one two : Meaning) (followed : List Followed)
+    (defined there : List (List Lit))
     (assumed : List Lit) (stop : ℕ) (old new : State) (before after : Counted) (turn : Turn) :
     Type 0 where
   pub right : IsRight two followed new there

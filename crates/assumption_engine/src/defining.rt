@@ -1,5 +1,6 @@
 // Selectors that are defined between questions.
-ghost use Rattle.std.specs.Prelude.{◌≡◌, ◌∷◌, [], ◌++◌, ◌<◌, ◌^◌, All, IfOk, OnErr, OnOk, false, true};
+ghost use Rattle.std.specs.Prelude.{◌≡◌, ◌∷◌, [], ◌++◌, ◌<◌, ◌^◌, All, IfOk, OnErr, OnOk, false};
+ghost use Rattle.std.specs.Prelude.{true};
 ghost use Rattle.clause_store.specs.Clause.{HasNoVariableTwice, IsOver};
 ghost use Rattle.clause_store.specs.Trail.{up_to};
 ghost use Rattle.assumption_engine.specs.Theory.{MeansTheSame};

@@ -55,4 +55,5 @@ returns-in-Quiet-clause-turn g c =
     turned_same (g.T.Theory.meaning c.choose.new.self.theory)
     (g.T.Theory.followed c.choose.new.self.theory) c.args.self.now.defined
     c.choose.new.self.defined c.args.assumed.now c.args.stop c.args.self.now.state
-    c.choose.new.self.state c.args.budget.now c.args.budget.now c.choose.result c.propagate.ensures.same c.choose.ensures.turn
+    c.choose.new.self.state c.args.budget.now c.args.budget.now c.choose.result
+    c.propagate.ensures.same c.choose.ensures.turn

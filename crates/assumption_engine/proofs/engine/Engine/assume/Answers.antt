@@ -1,4 +1,4 @@
-use Rattle.std.proofs.Common.{get_or, inl, refl, ◌∙◌}
+use Rattle.std.proofs.Common.{inl, refl, ◌∙◌}
 use Rattle.std.proofs.lemmas.List.Elements.{Contains-get_or}
 use Rattle.assumption_engine.proofs.AnswerLemmas.{core_of, room_below}
 use Rattle.assumption_engine.proofs.SameLemmas.{same_itself}

@@ -81,7 +81,8 @@ returns-in-Ended-clause-answer g c =
           on_then c.turns.invariant.same c.turns.invariant.on c.in_ok-turn.ensures.turn.on;
       does =
           subst
-          (λ d. HasEnded (g.T.Theory.meaning c.args.self.now.theory) d c.args.assumed.now c.args.stop
+          (λ d. HasEnded (g.T.Theory.meaning c.args.self.now.theory) d c.args.assumed.now
+          c.args.stop
           c.turn.new.self.state c.turn.new.budget c.in-Ended.answer) c.turns.invariant.defined
           (turn_then (g.T.Theory.meaning c.args.self.now.theory)
           (g.T.Theory.meaning c.turns.self.theory) c.turns.self.defined c.args.assumed.now

@@ -17,7 +17,8 @@ run-requires g c =
           record {
             right = c.go_back.ensures.right;
             over =
-                subst (λ t. All (IsOver t.vars) c.args.assumed.now) (sym c.go_back.ensures.back.trail)
+                subst (λ t. All (IsOver t.vars) c.args.assumed.now)
+                (sym c.go_back.ensures.back.trail)
                 c.requires.over;
             first =
                 first_at_start c.args.assumed.now c.go_back.new.self.state.trail

@@ -18,7 +18,8 @@ returns-in_ok-add-in-Unset-clause-right g c =
     c.args.self.now.defined c.args.self.now.learned.clause c.requires.right
     c.in_ok-add-in-Unset.ensures.ready
     (c.in_ok-add-in-Unset.ensures.ok
-    ∙ ap (λ (lits : List Lit). c.args.self.now.state.store ++ lits ∷ []) c.as_slice-in-Unset.ensures)
+    ∙ ap (λ (lits : List Lit). c.args.self.now.state.store ++ lits ∷ [])
+    c.as_slice-in-Unset.ensures)
     c.in_ok-add-in-Unset.ensures.trail
     (λ values model. refuted_follows c.args.self.now.state.store
     c.args.self.now.learned.clause c.requires.learned.refuted values
@@ -32,7 +33,8 @@ returns-in_ok-add-in-Unset-clause-on g c assumed =
     c.args.self.now.learned.clause c.args.self.now.learned.asserting c.know_trail.ensures
     c.requires.fixpoint c.requires.learned (sym c.value.ensures ∙ c.in-Unset.is))
     (c.in_ok-add-in-Unset.ensures.ok
-    ∙ ap (λ (lits : List Lit). c.args.self.now.state.store ++ lits ∷ []) c.as_slice-in-Unset.ensures)
+    ∙ ap (λ (lits : List Lit). c.args.self.now.state.store ++ lits ∷ [])
+    c.as_slice-in-Unset.ensures)
     c.in_ok-add-in-Unset.ensures.trail
     (c.in_ok-count-in-Unset.ensures.ok
     ∙ ap (λ (lits : List Lit). record c.args.budget.now {
