@@ -20,10 +20,10 @@ pub record IsFirstNotTrue (steps : List Step) (lits : List Lit) (at : ℕ) : Typ
 
 -- there is a place for each level, 0 past the last one: the assumed literals before it are true
 -- among the assignments up to that level
-abbrev pub AreTrueBefore : List Lit → List Step → List ℕ → Type 0
-AreTrueBefore assumed steps places =
-    (level : ℕ) → level ≤ present_level steps
-    → AreTrueOn (up_to level steps) (take (slice_index places level) assumed)
+pub record AreTrueBefore (assumed : List Lit) (steps : List Step) (places : List ℕ) : Type 0 where
+  pub known :
+      (level : ℕ) → level ≤ present_level steps
+      → AreTrueOn (up_to level steps) (take (slice_index places level) assumed)
 
 -- places that are right at each trail of level 0, whatever is assumed
 abbrev pub BeginsAtZero : List ℕ → Type 0

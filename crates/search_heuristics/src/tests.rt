@@ -1,5 +1,11 @@
 // Tests of what no clause says: which literal comes first, and when a search starts anew.
-use crate::{DecisionOrder, LevelCounter, RestartPace};
+ghost use Rattle.std.specs.Prelude.{◌≡◌, ◌≤◌, ℕ, List, All};
+ghost use Rattle.clause_store.specs.declared.literal.Lit.{Lit};
+ghost use Rattle.clause_store.specs.Clause.{IsOver};
+ghost use Rattle.clause_store.specs.Trail.{present_level};
+ghost use Rattle.search_heuristics.specs.Places.{AreTrueBefore};
+
+use crate::{AssumptionPlaces, DecisionOrder, LevelCounter, RestartPace};
 use clause_store::{Lit, Trail, Value, Var};
 use item_list::NoMemory;
 use std::alloc::Global;
@@ -166,5 +172,58 @@ fn counted_levels(alloc: Global) -> Result<[u32; 4], NoMemory> {
 #[test]
 fn levels_are_counted_once_each(rt: HostRuntime) -> Result<(), Fail> {
     assert_eq!(rt; counted_levels(rt.alloc())?, [3, 1, 2, 0]);
+    Ok(())
+}
+
+/// Makes the next assumed literal true, if it is unset, and says where it stands.
+fn assume_next(trail: &mut Trail, places: &mut AssumptionPlaces, assumed: &[Lit]) -> Option<usize>
+    requires over { All (IsOver trail.old.vars) assumed.now }
+    requires before { AreTrueBefore assumed.now trail.old.steps places.old }
+    ensures vars { trail.new.vars ≡ trail.old.vars }
+    ensures before { AreTrueBefore assumed.now trail.new.steps places.new }
+{
+    let found = places.next(trail, assumed)?;
+    let lit = assumed[found];
+    if trail.value(lit) == Value::Unset {
+        places.opens_level(trail);
+        trail.decide(lit);
+    }
+    Some(found)
+}
+
+/// Goes back, after which places are as right as before.
+fn go_back(trail: &mut Trail, level: u32)
+    requires { level ≤ present_level trail.old.steps }
+    ensures vars { trail.new.vars ≡ trail.old.vars }
+    ensures before { (assumed : List Lit) (places : List ℕ)
+        → AreTrueBefore assumed trail.old.steps places
+        → AreTrueBefore assumed trail.new.steps places }
+{
+    trail.back_to(level);
+}
+
+/// Where the assumed literals are found one after another, and again after going back to level 1.
+fn found_in_order(alloc: Global, assumed: &[Lit]) -> Result<[Option<usize>; 5], NoMemory>
+    requires { All (IsOver 4) assumed.now }
+{
+    let mut trail = Trail::open(alloc, 4)?;
+    let mut places = AssumptionPlaces::open(alloc, 4)?;
+    places.begin();
+    let first = assume_next(&mut trail, &mut places, assumed);
+    let second = assume_next(&mut trail, &mut places, assumed);
+    let third = assume_next(&mut trail, &mut places, assumed);
+    let last = assume_next(&mut trail, &mut places, assumed);
+    if trail.level() < 1 {
+        return Ok([None; 5]);
+    }
+    go_back(&mut trail, 1);
+    let again = assume_next(&mut trail, &mut places, assumed);
+    Ok([first, second, third, last, again])
+}
+
+#[test]
+fn assumed_literals_are_found_one_after_another(rt: HostRuntime) -> Result<(), Fail> {
+    let found = found_in_order(rt.alloc(), &[Lit(2), Lit(2), Lit(5), Lit(6)])?;
+    assert_eq!(rt; found, [Some(0), Some(2), Some(3), None, Some(2)]);
     Ok(())
 }

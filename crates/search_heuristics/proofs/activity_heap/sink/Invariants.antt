@@ -1,4 +1,4 @@
-use Rattle.std.proofs.Common.{◌<◌, ◌-◌, length}
+use Rattle.std.proofs.Common.{◌<◌, ◌-◌}
 use Rattle.search_heuristics.specs.Heap.{AreVariables}
 use Rattle.search_heuristics.proofs.activity_heap.sink.Given as goal
 
