@@ -1,6 +1,6 @@
 -- What is known while a clause is minimised, and what its minimisation keeps. No public clause
 -- cites this module.
-use Rattle.std.specs.Prelude.{◌≡◌, ◌≢◌, ◌<◌, ◌++◌, ◌∷◌, [], ℕ, Bool, true, List, length, slice_get}
+use Rattle.std.specs.Prelude.{◌≡◌, ◌≢◌, ◌<◌, ◌⊎◌, ℕ, Bool, true, List, length, slice_get}
 use Rattle.std.specs.Prelude.{slice_set, All, Any, Contains, Some}
 use Rattle.clause_store.specs.declared.literal.Lit.{Lit}
 use Rattle.clause_store.specs.declared.literal.ClauseRef.{ClauseRef}
@@ -73,11 +73,13 @@ pub record CoversAll (trail : Assigned) (old new : Judge) (lits : List Lit) : Ty
   pub ready : IsReady trail new
   pub only : (var : ℕ) → IsMarked new.covered.items var
       → IsMarked old.covered.items var ⊎ Any (λ lit. variable lit ≡ var) lits
+  pub all : All (λ lit. IsMarked new.covered.items (variable lit)) lits
 
 -- the literals of the clause are covered, and no others
 pub record CoversOnly (trail : Assigned) (clause : List Lit) (judge : Judge) : Type 0 where
   pub ready : IsReady trail judge
   pub only : AreListed judge.covered.items clause
+  pub all : All (λ lit. IsMarked judge.covered.items (variable lit)) clause
 
 -- more literals were covered, each with a reason
 pub record Judges (clauses : List (List Lit)) (trail : Assigned) (old new : Judge) : Type 0 where
@@ -93,8 +95,3 @@ pub record IsEnough (clauses : List (List Lit)) (many few : List Lit) : Type 0 w
   pub once : HasNoVariableTwice many → HasNoVariableTwice few
   pub gives : (known : List Lit) → IsClosed clauses known → HasAll known (negations few)
       → HasAll known (negations many)
-
--- where the covered variables were those of the clause, what is left of it is enough
-abbrev pub Minimises : List (List Lit) → Assigned → List Bool → List Lit → List Lit → Type 0
-Minimises clauses trail marks old new =
-    AreHeld clauses trail.steps old marks → IsEnough clauses old new

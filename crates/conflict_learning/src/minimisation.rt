@@ -9,7 +9,7 @@ ghost use Rattle.clause_store.specs.Trail.{IsTrail, IsTrailOf};
 ghost use Rattle.conflict_learning.specs.Marks.{HasNoMark};
 ghost use Rattle.conflict_learning.specs.Minimisation.{Begins, CoversAll, CoversOnly, IsCovered, IsEnough};
 ghost use Rattle.conflict_learning.specs.Minimisation.{IsExplained, IsReady, Judges, MarksCovered};
-ghost use Rattle.conflict_learning.specs.Minimisation.{MarksUncovered, Minimises};
+ghost use Rattle.conflict_learning.specs.Minimisation.{MarksUncovered};
 
 use crate::Learned;
 use crate::marks::unmark_lits;
@@ -43,7 +43,7 @@ pub fn minimise(
 
 /// A judge that takes the literals of the clause for covered.
 fn begin(alloc: Global, trail: &Trail, learned: &mut Learned) -> Result<Judge, NoMemory>
-    requires over { All (IsOver trail.now.vars) learned.old.clause }
+    requires is_false { All (IsFalse trail.now.steps) learned.old.clause }
     ensures covers { IfOk result (CoversOnly trail.now learned.old.clause) }
     ensures clause { learned.new.clause ≡ learned.old.clause }
     ensures visited { learned.new.visited ≡ learned.old.visited }
@@ -112,11 +112,10 @@ impl Judge {
         clause: &mut Clause,
     ) -> Result<(), NoMemory>
         requires of_store { IsTrailOf trail.now.steps store.now }
-        requires ready { IsReady trail.now self.old }
+        requires covers { CoversOnly trail.now clause.old self.old }
         requires is_false { All (IsFalse trail.now.steps) clause.old }
         ensures ready { OnOk result (IsReady trail.now self.new) }
-        ensures minimises { OnOk result
-            (Minimises store.now trail.now self.old.covered.items clause.old clause.new) }
+        ensures enough { OnOk result (IsEnough store.now clause.old clause.new) }
     {
         let mut kept = 0;
         for at in 0..clause.len() {
