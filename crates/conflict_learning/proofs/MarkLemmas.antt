@@ -1,7 +1,8 @@
 -- How many assignments are open when a variable is marked or an assignment is passed, and what is
 -- listed.
 use Rattle.std.proofs.Common.{◌≡◌, ◌≢◌, ℕ, suc, ◌+◌, ◌<◌, Bool, true, false, cond, eqb, List, []}
-use Rattle.std.proofs.Common.{◌∷◌, ◌++◌, get_or, length, map, set, Some, refl, sym, ap, ap₂, ◌∙◌, subst, inl, inr}
+use Rattle.std.proofs.Common.{◌∷◌, ◌++◌, get_or, length, map, set, Some, refl, sym, ap, ap₂, ◌∙◌}
+use Rattle.std.proofs.Common.{subst, inl, inr}
 use Rattle.std.proofs.Common.{arith, get_or-set_same, get_or-set_other}
 use Rattle.std.specs.Prelude.{All, AllPairs, Contains, count_by, ◌&&◌}
 use Rattle.std.proofs.lemmas.Bool.{cases_Bool, cases_eq, eqb-true, eqb-false}

@@ -1,6 +1,8 @@
 -- Which literals go from a learned clause, and why what is left is enough.
-use Rattle.std.proofs.Common.{◌≡◌, ◌≢◌, ◌⊎◌, ℕ, zero, suc, ◌+◌, ◌-◌, ◌<◌, ◌≤◌, Bool, true, false, List}
-use Rattle.std.proofs.Common.{[], ◌∷◌, ◌++◌, append_assoc, length-append, length, set, take, drop, get_or, Some, refl, sym, ap, ◌∙◌, subst}
+use Rattle.std.proofs.Common.{◌≡◌, ◌≢◌, ◌⊎◌, ℕ, zero, suc, ◌+◌, ◌-◌, ◌<◌, ◌≤◌, Bool, true, false}
+use Rattle.std.proofs.Common.{List}
+use Rattle.std.proofs.Common.{[], ◌∷◌, ◌++◌, append_assoc, length-append, length, set, take, drop}
+use Rattle.std.proofs.Common.{get_or, Some, refl, sym, ap, ◌∙◌, subst}
 use Rattle.std.proofs.Common.{inl, inr, arith, eqb, not}
 use Rattle.std.specs.Prelude.{All, AllPairs, Contains, slice_get, option_and_then}
 use Rattle.std.specs.List.{remove}
@@ -28,9 +30,9 @@ use Rattle.clause_store.proofs.LiteralLemmas.{any_from, any_through, first_or_la
 use Rattle.clause_store.proofs.LiteralLemmas.{has_first, has_mapped, lit_of_code, mapped_from}
 use Rattle.conflict_learning.specs.Analysis.{level_at}
 use Rattle.conflict_learning.specs.Marks.{IsMarked}
-use Rattle.conflict_learning.specs.Minimisation.{AreHeld, AreListed, Begins, CoversAll, CoversOnly}
+use Rattle.conflict_learning.specs.Minimisation.{AreHeld, CoversAll, CoversOnly}
 use Rattle.conflict_learning.specs.Minimisation.{IsCovered, IsEnough, IsExplained, IsHeld, IsReady}
-use Rattle.conflict_learning.specs.Minimisation.{Judges, MarksCovered, MarksUncovered}
+use Rattle.conflict_learning.specs.Minimisation.{Judges, MarksCovered}
 use Rattle.conflict_learning.specs.declared.minimisation.Judge.{Judge}
 use Rattle.conflict_learning.proofs.AssignedLemmas.{blank, refuter, false_later}
 use Rattle.conflict_learning.proofs.AssignedLemmas.{level_found, step_of_before}
@@ -69,98 +71,9 @@ held_more clauses steps clause one two var grows held =
       ];
     }
 
--- one literal more is judged
-listed_push : (marks : List Bool) (judged : List Lit) (lit : Lit) → AreListed marks judged
-    → AreListed marks (judged ++ lit ∷ [])
-listed_push marks judged lit listed var marked =
-    any_through (λ l. variable l ≡ var) (λ l. variable l ≡ var) judged (judged ++ lit ∷ [])
-    (λ k d inside. Contains-append_left judged (lit ∷ []) (get_or judged k d)
-    (All-contains_itself judged k d inside))
-    (λ l same. same) (listed var marked)
-
-listed_new : (marks : List Bool) (judged : List Lit) (lit : Lit) → AreListed marks judged
-    → AreListed (set marks (variable lit) true) (judged ++ lit ∷ [])
-listed_new marks judged lit listed var marked =
-    elim (cases_eq var (variable lit)) [
-      | inl same ↦ any_from (λ l. variable l ≡ var) (judged ++ lit ∷ []) lit
-          (Contains-push judged lit) (sym same)
-      | inr other ↦ listed_push marks judged lit listed var
-          (marked_before marks (variable lit) var other marked)
-    ]
-
--- a literal of the trail has a place in the tables
-pub covered_inside : (trail : Assigned) (judge : Judge) (lit : Lit) → IsReady trail judge
-    → IsOver trail.vars lit → variable lit < length judge.covered.items
-covered_inside trail judge lit ready over = omega (arith, ready.covered_sized, over.last)
-
 pub uncovered_inside : (trail : Assigned) (judge : Judge) (lit : Lit) → IsReady trail judge
     → IsOver trail.vars lit → variable lit < length judge.uncovered.items
 uncovered_inside trail judge lit ready over = omega (arith, ready.uncovered_sized, over.last)
-
-pub marks_covered : (trail : Assigned) (old new : Judge) (lit : Lit) → IsReady trail old
-    → IsOver trail.vars lit → new.covered.items ≡ set old.covered.items (variable lit) true
-    → new.uncovered.items ≡ old.uncovered.items → new.judged ≡ old.judged ++ lit ∷ []
-    → MarksCovered trail old new lit
-marks_covered trail old new lit ready over covered uncovered judged =
-    record {
-      ready = record {
-        is_trail = ready.is_trail;
-        covered_sized =
-            subst (λ marks. trail.vars < length marks) (sym covered)
-            (omega (
-              arith,
-              length-set old.covered.items (variable lit) true,
-              ready.covered_sized,
-            ));
-        uncovered_sized =
-            subst (λ marks. trail.vars < length marks) (sym uncovered) ready.uncovered_sized;
-        over =
-            subst (All (IsOver trail.vars)) (sym judged)
-            (All-push (IsOver trail.vars) old.judged lit ready.over over);
-        covered_listed =
-            subst (AreListed new.covered.items) (sym judged)
-            (subst (λ marks. AreListed marks (old.judged ++ lit ∷ [])) (sym covered)
-            (listed_new old.covered.items old.judged lit ready.covered_listed));
-        uncovered_listed =
-            subst (AreListed new.uncovered.items) (sym judged)
-            (subst (λ marks. AreListed marks (old.judged ++ lit ∷ [])) (sym uncovered)
-            (listed_push old.uncovered.items old.judged lit ready.uncovered_listed));
-      };
-      is = covered;
-      inside = covered_inside trail old lit ready over;
-    }
-
-pub marks_uncovered : (trail : Assigned) (old new : Judge) (lit : Lit) → IsReady trail old
-    → IsOver trail.vars lit → new.uncovered.items ≡ set old.uncovered.items (variable lit) true
-    → new.covered.items ≡ old.covered.items → new.judged ≡ old.judged ++ lit ∷ []
-    → MarksUncovered trail old new lit
-marks_uncovered trail old new lit ready over uncovered covered judged =
-    record {
-      ready = record {
-        is_trail = ready.is_trail;
-        covered_sized =
-            subst (λ marks. trail.vars < length marks) (sym covered) ready.covered_sized;
-        uncovered_sized =
-            subst (λ marks. trail.vars < length marks) (sym uncovered)
-            (omega (
-              arith,
-              length-set old.uncovered.items (variable lit) true,
-              ready.uncovered_sized,
-            ));
-        over =
-            subst (All (IsOver trail.vars)) (sym judged)
-            (All-push (IsOver trail.vars) old.judged lit ready.over over);
-        covered_listed =
-            subst (AreListed new.covered.items) (sym judged)
-            (subst (λ marks. AreListed marks (old.judged ++ lit ∷ [])) (sym covered)
-            (listed_push old.covered.items old.judged lit ready.covered_listed));
-        uncovered_listed =
-            subst (AreListed new.uncovered.items) (sym judged)
-            (subst (λ marks. AreListed marks (old.judged ++ lit ∷ [])) (sym uncovered)
-            (listed_new old.uncovered.items old.judged lit ready.uncovered_listed));
-      };
-      is = covered;
-    }
 
 -- ---- the literals of the clause are covered
 
@@ -202,18 +115,6 @@ covers_more trail old mid new lits lit covers marks =
           (λ k d inside. marked_kept mid.covered.items (variable lit) (variable (get_or lits k d))
           marks.inside (covers.all k d inside))
           (marked_new mid.covered.items (variable lit) marks.inside));
-    }
-
-pub covers_only : (trail : Assigned) (old new : Judge) (clause : List Lit) → Begins trail old
-    → CoversAll trail old new clause → CoversOnly trail clause new
-covers_only trail old new clause begins covers =
-    record {
-      ready = covers.ready;
-      only = λ var marked. elim (covers.only var marked) [
-        | inl before ↦ absurd (false≢true (sym (begins.unmarked var) ∙ before))
-        | inr one ↦ one
-      ];
-      all = covers.all;
     }
 
 -- ---- literals are judged
@@ -266,15 +167,6 @@ pub covered_now : (trail : Assigned) (old new : Judge) (lit : Lit) → MarksCove
 covered_now trail old new lit marks above =
     subst (λ ms. IsMarked ms (variable lit)) (sym marks.is)
     (marked_new old.covered.items (variable lit) marks.inside)
-
-pub judges_uncovered : (clauses : List (List Lit)) (trail : Assigned) (old new : Judge) (lit : Lit)
-    → MarksUncovered trail old new lit → Judges clauses trail old new
-judges_uncovered clauses trail old new lit marks =
-    record {
-      ready = marks.ready;
-      grows = λ var is. subst (λ ms. IsMarked ms var) (sym marks.is) is;
-      held = λ clause are. subst (AreHeld clauses trail.steps clause) (sym marks.is) are;
-    }
 
 -- ---- the reason of a false literal
 

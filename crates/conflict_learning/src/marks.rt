@@ -103,7 +103,8 @@ pub fn list_steps(
     visited: &mut List<Var>,
 ) -> Result<(), NoMemory>
     requires { All (λ step. variable step.lit < length marks.now) steps.now }
-    ensures { OnOk result (ListsVariables (map (λ step. step.lit) steps.now) visited.old visited.new) }
+    ensures { OnOk result
+        (ListsVariables (map (λ step. step.lit) steps.now) visited.old visited.new) }
 {
     for step in steps {
         let var = step.lit.var();

@@ -7,7 +7,8 @@ ghost use Rattle.clause_store.specs.Clause.{IsOver};
 ghost use Rattle.clause_store.specs.Standing.{IsFalse};
 ghost use Rattle.clause_store.specs.Trail.{IsTrail, IsTrailOf};
 ghost use Rattle.conflict_learning.specs.Marks.{HasNoMark};
-ghost use Rattle.conflict_learning.specs.Minimisation.{Begins, CoversAll, CoversOnly, IsCovered, IsEnough};
+ghost use Rattle.conflict_learning.specs.Minimisation.{Begins, CoversAll, CoversOnly, IsCovered};
+ghost use Rattle.conflict_learning.specs.Minimisation.{IsEnough};
 ghost use Rattle.conflict_learning.specs.Minimisation.{IsExplained, IsReady, Judges, MarksCovered};
 ghost use Rattle.conflict_learning.specs.Minimisation.{MarksUncovered};
 
