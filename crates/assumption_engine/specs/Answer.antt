@@ -7,9 +7,8 @@ use Rattle.clause_store.specs.declared.literal.Value.TheVariants.{Unset}
 use Rattle.clause_store.specs.Standing.{Followed}
 use Rattle.clause_store.specs.Trail.{Assigned, IsTotal, value_of, values_of}
 use Rattle.assumption_engine.specs.Theory.{Meaning, IsSpentCheck}
-use Rattle.search_state.specs.Assumed.{AreAssumedFirst}
 use Rattle.assumption_engine.specs.Engine.{GoesOn, IsModelOf, IsRight}
-use Rattle.assumption_engine.specs.Sided.{AreAssumedOrFree}
+use Rattle.assumption_engine.specs.Sided.{AreInOrder}
 use Rattle.assumption_engine.specs.Progress.{IsNearer}
 use Rattle.assumption_engine.specs.declared.answer.Answer.{Answer}
 use Rattle.assumption_engine.specs.declared.answer.Answer.TheVariants.{Model, Core, Spent}
@@ -104,14 +103,13 @@ pub record HasTurned (one two : Meaning) (followed : List Followed)
   pub on : GoesOn one assumed old new before after
   pub does : IsTurn one defined assumed stop old new after turn
 
--- a turn may begin: all is right, the assumed literals are over the variables and come first, what
--- is true and not assumed is free, and one more clause may be counted
+-- a turn may begin: all is right, the assumed literals are over the variables and come first, and
+-- one more clause may be counted
 pub record MayTurn (meaning : Meaning) (followed : List Followed) (state : Searched)
     (defined : List (List Lit)) (assumed : List Lit) (stop : ℕ) (before : Counted) : Type 0 where
   pub right : IsRight meaning followed state defined
   pub over : All (IsOver state.trail.vars) assumed
-  pub first : AreAssumedFirst assumed state.trail.steps
-  pub free : AreAssumedOrFree state.clauses assumed state.trail.steps
+  pub order : AreInOrder state.clauses assumed state.trail.steps
   pub room : HasRoom stop before
 
 -- the answers that come for having counted

@@ -17,8 +17,7 @@ use Rattle.propagator.specs.Fixpoint.{Extends}
 use Rattle.assumption_engine.specs.Theory.{Meaning}
 use Rattle.clause_store.specs.History.{Added, added_clauses, counted_clauses, IsHistoryOf}
 use Rattle.search_state.specs.State.{Searched}
-use Rattle.search_state.specs.Assumed.{AreAssumedFirst}
-use Rattle.assumption_engine.specs.Sided.{AreAsAssumed, AreAssumedOrFree, AreOpposed}
+use Rattle.assumption_engine.specs.Sided.{AreAsAssumed, AreInOrder, AreOpposed}
 use Rattle.assumption_engine.specs.Sided.{IsOneSided}
 
 -- a model of an engine: one of the theory that meets the clause of each defined selector
@@ -38,8 +37,7 @@ pub record IsRight (meaning : Meaning) (followed : List Followed) (state : Searc
   pub follows : AreFollowed state.trail.steps followed
 
 -- a search went on: clauses came that were counted or may be given, none of which those before
--- absorb; one-sided variables stay so, the assumed literals still come first, and what isn't assumed
--- is free
+-- absorb; one-sided variables stay so, and the assumed literals still come first
 pub record GoesOn (meaning : Meaning) (assumed : List Lit) (old new : Searched)
     (before after : Counted) : Type 0 where
   pub vars : new.trail.vars ≡ old.trail.vars
@@ -48,14 +46,12 @@ pub record GoesOn (meaning : Meaning) (assumed : List Lit) (old new : Searched)
   pub counts : after ≡ record before { units = before.units ++ counted_clauses added }
   pub history : IsHistoryOf meaning.may_give old.clauses added
   pub are_units : AreUnits old.clauses (added_clauses added)
-  pub first :
-      AreAssumedFirst assumed old.trail.steps → AreAssumedFirst assumed new.trail.steps
   pub sided :
       (var : ℕ) → IsOneSided meaning.may_give old.clauses var
       → IsOneSided meaning.may_give new.clauses var
-  pub free :
-      AreAssumedOrFree old.clauses assumed old.trail.steps
-      → AreAssumedOrFree new.clauses assumed new.trail.steps
+  pub order :
+      AreInOrder old.clauses assumed old.trail.steps
+      → AreInOrder new.clauses assumed new.trail.steps
 
 -- clauses were counted: they are units beside those of the store, hold in all models, and have
 -- one-sided variables of the store only negated and where they are assumed
@@ -101,7 +97,7 @@ pub record Taught (old new : Searched) (learned : Learned) : Type 0 where
   pub is_learned : IsLearned new.clauses new.trail learned.clause learned.asserting
   pub unset : value_of new.trail.steps learned.asserting ≡ Unset
   pub opposed :
-      (assumed : List Lit) → AreAssumedOrFree old.clauses assumed old.trail.steps
+      (assumed : List Lit) → AreInOrder old.clauses assumed old.trail.steps
       → AreOpposed new.clauses assumed learned.clause
 
 -- below its present level a trail is as another was

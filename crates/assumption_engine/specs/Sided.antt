@@ -1,11 +1,12 @@
 -- One-sided variables: those that only an assumption makes true.
-use Rattle.std.specs.Prelude.{◌≡◌, ◌+◌, ◌*◌, ◌⊎◌, ℕ, List, true, All, Contains, ⊥}
+use Rattle.std.specs.Prelude.{◌≡◌, ◌+◌, ◌*◌, ◌⊎◌, ℕ, List, true, All, Contains}
 use Rattle.clause_store.specs.declared.literal.Lit.{Lit}
 use Rattle.clause_store.specs.declared.literal.Value.TheVariants.{Yes}
 use Rattle.clause_store.specs.declared.step.Step.{Step}
 use Rattle.clause_store.specs.Clause.{is_negated, negation}
 use Rattle.clause_store.specs.Trail.{value_of}
 use Rattle.conflict_learning.specs.Analysis.{StandsIn}
+use Rattle.search_state.specs.Assumed.{AreAssumedFirst}
 
 -- the literal that says that a variable is true
 abbrev pub positive : ℕ → Lit
@@ -47,12 +48,14 @@ IsFree clauses lit = (is_negated lit ≡ true) ⊎ StandsIn clauses lit
 abbrev pub IsAssumedOrFree : List (List Lit) → List Lit → Lit → Type 0
 IsAssumedOrFree clauses assumed lit = Contains assumed lit ⊎ IsFree clauses lit
 
--- so is each literal that was made true
-abbrev pub AreAssumedOrFree : List (List Lit) → List Lit → List Step → Type 0
-AreAssumedOrFree clauses assumed steps =
-    All (λ step. IsAssumedOrFree clauses assumed step.lit) steps
+-- the assumed literals were decided first, and each literal that was made true is assumed, or may be
+-- true unassumed
+pub record AreInOrder (clauses : List (List Lit)) (assumed : List Lit) (steps : List Step) :
+    Type 0 where
+  pub first : AreAssumedFirst assumed steps
+  pub free : All (λ step. IsAssumedOrFree clauses assumed step.lit) steps
 
--- so is the opposite of each literal of a clause
+-- the opposite of each literal of a clause is assumed, or may be true unassumed
 abbrev pub AreOpposed : List (List Lit) → List Lit → List Lit → Type 0
 AreOpposed clauses assumed clause =
     All (λ lit. IsAssumedOrFree clauses assumed (negation lit)) clause

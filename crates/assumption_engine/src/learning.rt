@@ -6,7 +6,7 @@ ghost use Rattle.propagator.specs.Fixpoint.{IsFixpoint};
 ghost use Rattle.assumption_engine.specs.Theory.{MeansTheSame};
 ghost use Rattle.assumption_engine.specs.Engine.{GoesOn, HasCounted, IsLearned, IsRight, Taught};
 ghost use Rattle.assumption_engine.specs.Engine.{IsLevelOf};
-ghost use Rattle.assumption_engine.specs.Sided.{AreAssumedOrFree, AreOpposed};
+ghost use Rattle.assumption_engine.specs.Sided.{AreInOrder, AreOpposed};
 ghost use Rattle.assumption_engine.specs.Answer.{HasRoom, HasTaken, IsStopping, IsTurn};
 
 use crate::answer::{Answer, Turn};
@@ -38,7 +38,7 @@ impl<T: Theory> Engine<T> {
         ensures on { OnOk result ((assumed : List Lit) → GoesOn (T.meaning self.old.theory)
             assumed self.old.state self.new.state budget.old budget.new) }
         ensures counted { (assumed : List Lit)
-            → AreAssumedOrFree self.old.state.clauses assumed self.old.state.trail.steps
+            → AreInOrder self.old.state.clauses assumed self.old.state.trail.steps
             → HasCounted (T.meaning self.old.theory) assumed self.old.defined
             self.old.state.clauses budget.old budget.new }
         ensures turn { IfOk result (λ turn. (assumed : List Lit) → IsTurn
