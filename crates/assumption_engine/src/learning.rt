@@ -35,7 +35,9 @@ impl<T: Theory> Engine<T> {
             (T.followed self.new.theory) self.new.state self.new.defined) }
         ensures same { MeansTheSame (T.meaning self.old.theory) (T.meaning self.new.theory) }
         ensures defined { self.new.defined ≡ self.old.defined }
-        ensures on { OnOk result ((assumed : List Lit) → GoesOn (T.meaning self.old.theory)
+        ensures on { OnOk result ((assumed : List Lit)
+            → AreInOrder self.old.state.clauses assumed self.old.state.trail.steps
+            → GoesOn (T.meaning self.old.theory)
             assumed self.old.state self.new.state budget.old budget.new) }
         ensures counted { (assumed : List Lit)
             → AreInOrder self.old.state.clauses assumed self.old.state.trail.steps
@@ -106,7 +108,9 @@ impl<T: Theory> Engine<T> {
         ensures theory { self.new.theory ≡ self.old.theory }
         ensures defined { self.new.defined ≡ self.old.defined }
         ensures trail { self.new.state.trail ≡ self.old.state.trail }
-        ensures on { OnOk result ((assumed : List Lit) → GoesOn (T.meaning self.old.theory)
+        ensures on { OnOk result ((assumed : List Lit)
+            → AreOpposed self.old.state.clauses assumed self.old.learned.clause
+            → GoesOn (T.meaning self.old.theory)
             assumed self.old.state self.new.state budget.old budget.new) }
         ensures counted { (assumed : List Lit)
             → AreOpposed self.old.state.clauses assumed self.old.learned.clause

@@ -73,7 +73,7 @@ take_learned-requires-clause-right g c =
 
 pub take_learned-requires-clause-learned : goal.take_learned-requires-clause-learned
 take_learned-requires-clause-learned g c =
-    learned_extended c.resolve.new.self.state.store c.propagate.new.self.store
+    learned_extended c.resolve.new.self.state.clauses c.propagate.new.self.clauses
     c.resolve.new.self.state.trail c.propagate.new.self.trail
     c.resolve.new.self.learned.clause c.resolve.new.self.learned.asserting
     c.propagate.ensures.store c.propagate.ensures.extends
@@ -111,7 +111,7 @@ returns-in-None-clause-counted g c =
     c.propagate.new.self c.resolve.new.self.defined c.in_ok-resolve.ensures.right
     c.propagate.ensures.ready c.propagate.ensures.store c.propagate.ensures.extends in
     subst
-    (λ d. HasCounted (g.T.Theory.meaning c.args.self.now.theory) d c.args.self.now.state.store
+    (λ d. HasCounted (g.T.Theory.meaning c.args.self.now.theory) d c.args.self.now.state.clauses
     c.args.budget.now c.take_learned.new.budget)
     (c.in_ok-resolve.ensures.defined ∙ c.conflicts.invariant.defined)
     (counted_then (g.T.Theory.meaning c.args.self.now.theory)

@@ -13,7 +13,7 @@ invariant-conflicts g l = record {
   same : MeansTheSame (g.T.Theory.meaning l.fn.self.theory) (g.T.Theory.meaning l.self.theory);
   defined : l.self.defined ≡ l.fn.self.defined;
   budget : l.budget ≡ l.fn.budget;
-  conflict : IsConflict l.self.state.store l.self.state.trail.steps l.conflict;
+  conflict : IsConflict l.self.state.clauses l.self.state.trail.steps l.conflict;
   down : IsDown l.fn.self.state l.self.state;
 }
 

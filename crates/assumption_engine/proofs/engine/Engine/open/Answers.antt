@@ -17,8 +17,8 @@ returns-clause-right g c =
           subst (AreMoreClauses (g.T.Theory.meaning c.args.theory).needs)
           (sym c.in_ok-state.ensures.store) c.requires.needs;
       kept =
-          subst (λ defined. AreMoreClauses defined c.in_ok-state.state.store)
-          (sym c.open-4.ensures) (All-nil (Contains c.in_ok-state.state.store));
+          subst (λ defined. AreMoreClauses defined c.in_ok-state.state.clauses)
+          (sym c.open-4.ensures) (All-nil (Contains c.in_ok-state.state.clauses));
       range =
           let vars = ap (λ t. t.vars) c.in_ok-state.ensures.trail in
           omega (arith, vars, c.requires.range);

@@ -8,26 +8,26 @@ use Rattle.assumption_engine.proofs.engine.Engine.resolve.Goals as goal
 
 pub go_back-requires-clause-level : goal.go_back-requires-clause-level
 go_back-requires-clause-level g c =
-    level_within c.args.self.now.state.store c.args.self.now.state.trail.steps c.args.conflict
+    level_within c.args.self.now.state.clauses c.args.self.now.state.trail.steps c.args.conflict
     c.requires.conflict.clause c.args.level c.requires.conflict c.requires.conflict.named
     (c.requires.level c.requires.conflict.clause c.requires.conflict.named)
 
 pub analyse-requires-clause-conflict : goal.analyse-requires-clause-conflict
 analyse-requires-clause-conflict g c =
-    (conflict_there c.args.self.now.state.store c.go_back.new.self.state.store
+    (conflict_there c.args.self.now.state.clauses c.go_back.new.self.state.clauses
     c.args.self.now.state.trail.steps c.go_back.new.self.state.trail.steps c.args.conflict
     c.requires.conflict.clause c.args.level c.requires.conflict c.requires.conflict.named
     (c.requires.level c.requires.conflict.clause c.requires.conflict.named) c.requires.above
-    c.go_back.ensures.back.store (ap (λ t. t.steps) c.go_back.ensures.back.trail)
+    c.go_back.ensures.back.clauses (ap (λ t. t.steps) c.go_back.ensures.back.trail)
     c.go_back.ensures.back.present).conflict
 
 pub analyse-requires-clause-present : goal.analyse-requires-clause-present
 analyse-requires-clause-present g c =
-    (conflict_there c.args.self.now.state.store c.go_back.new.self.state.store
+    (conflict_there c.args.self.now.state.clauses c.go_back.new.self.state.clauses
     c.args.self.now.state.trail.steps c.go_back.new.self.state.trail.steps c.args.conflict
     c.requires.conflict.clause c.args.level c.requires.conflict c.requires.conflict.named
     (c.requires.level c.requires.conflict.clause c.requires.conflict.named) c.requires.above
-    c.go_back.ensures.back.store (ap (λ t. t.steps) c.go_back.ensures.back.trail)
+    c.go_back.ensures.back.clauses (ap (λ t. t.steps) c.go_back.ensures.back.trail)
     c.go_back.ensures.back.present).present
 
 pub go_back-requires-2-clause-level : goal.go_back-requires-2-clause-level
@@ -47,7 +47,7 @@ returns-clause-taught g c =
     (sym c.go_back-2.ensures.learned)
     (taught c.args.self.now.state c.go_back.new.self.state c.go_back-2.new.self.state
     c.analyse.new.learned c.args.level c.requires.above
-    (level_within c.args.self.now.state.store c.args.self.now.state.trail.steps c.args.conflict
+    (level_within c.args.self.now.state.clauses c.args.self.now.state.trail.steps c.args.conflict
     c.requires.conflict.clause c.args.level c.requires.conflict c.requires.conflict.named
     (c.requires.level c.requires.conflict.clause c.requires.conflict.named))
     c.go_back.ensures.back

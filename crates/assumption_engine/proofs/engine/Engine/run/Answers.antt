@@ -36,7 +36,7 @@ turns-smaller g c =
     (IsTurn (g.T.Theory.meaning c.turns.self.theory) c.turns.self.defined c.args.assumed.now
     c.args.stop c.turns.self.state c.turn.new.self.state c.turn.new.budget) c.in-Going.is
     c.in_ok-turn.ensures.turn.does in
-    fewer_turns (length c.args.self.now.state.store + 3 ^ c.args.self.now.state.trail.vars)
+    fewer_turns (length c.args.self.now.state.clauses + 3 ^ c.args.self.now.state.trail.vars)
     c.args.self.now.state.trail.vars c.turns.self.state c.turn.new.self.state
     c.know_trail.ensures on.vars
     (few_came (g.T.Theory.meaning c.args.self.now.theory) c.args.assumed.now

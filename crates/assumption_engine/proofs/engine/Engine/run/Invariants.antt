@@ -19,5 +19,5 @@ invariant-turns g l = record {
 
 abbrev pub decreases-turns : goal.decreases-turns
 decreases-turns g l =
-    turns_left (length l.fn.self.state.store + 3 ^ l.fn.self.state.trail.vars)
-    (length l.self.state.store) l.fn.self.state.trail.vars (weight l.self.state.trail)
+    turns_left (length l.fn.self.state.clauses + 3 ^ l.fn.self.state.trail.vars)
+    (length l.self.state.clauses) l.fn.self.state.trail.vars (weight l.self.state.trail)

@@ -18,10 +18,10 @@ returns-in_ok-add-in-Unset-clause-right g c =
     c.args.self.now.defined c.args.self.now.learned.clause c.requires.right
     c.in_ok-add-in-Unset.ensures.ready
     (c.in_ok-add-in-Unset.ensures.ok
-    ∙ ap (λ (lits : List Lit). c.args.self.now.state.store ++ lits ∷ [])
+    ∙ ap (λ (lits : List Lit). c.args.self.now.state.clauses ++ lits ∷ [])
     c.as_slice-in-Unset.ensures)
     c.in_ok-add-in-Unset.ensures.trail
-    (λ values model. refuted_follows c.args.self.now.state.store
+    (λ values model. refuted_follows c.args.self.now.state.clauses
     c.args.self.now.learned.clause c.requires.learned.refuted values
     (c.requires.right.holds values model))
 
@@ -29,11 +29,11 @@ pub returns-in_ok-add-in-Unset-clause-on : goal.returns-in_ok-add-in-Unset-claus
 returns-in_ok-add-in-Unset-clause-on g c assumed =
     goes_on_counted (g.T.Theory.meaning c.args.self.now.theory) assumed c.args.self.now.state
     c.add.new.self c.args.budget.now c.count.new.self c.args.self.now.learned.clause
-    (new_work c.args.self.now.state.store c.args.self.now.state.trail
+    (new_work c.args.self.now.state.clauses c.args.self.now.state.trail
     c.args.self.now.learned.clause c.args.self.now.learned.asserting c.know_trail.ensures
     c.requires.fixpoint c.requires.learned (sym c.value.ensures ∙ c.in-Unset.is))
     (c.in_ok-add-in-Unset.ensures.ok
-    ∙ ap (λ (lits : List Lit). c.args.self.now.state.store ++ lits ∷ [])
+    ∙ ap (λ (lits : List Lit). c.args.self.now.state.clauses ++ lits ∷ [])
     c.as_slice-in-Unset.ensures)
     c.in_ok-add-in-Unset.ensures.trail
     (c.in_ok-count-in-Unset.ensures.ok

@@ -66,7 +66,7 @@ ask_theory-requires-clause-may g c =
 pub returns-in-None-clause-counted : goal.returns-in-None-clause-counted
 returns-in-None-clause-counted g c =
     counted_none (g.T.Theory.meaning c.args.self.now.theory) c.args.self.now.defined
-    c.args.self.now.state.store c.args.budget.now c.args.budget.now refl
+    c.args.self.now.state.clauses c.args.budget.now c.args.budget.now refl
 
 pub returns-in-None-clause-turn : goal.returns-in-None-clause-turn
 returns-in-None-clause-turn g c =
