@@ -60,6 +60,7 @@ taught old mid new learned level above within first is second =
             present = second.present;
             was_trail = first.was_trail;
             is_trail = second.is_trail;
+            of_store = second.of_store;
           };
       is_learned =
           record {
@@ -214,6 +215,14 @@ down_further old now back new learned down is by =
   where
     level : present_level new.trail.steps ≡ present_level back.trail.steps
     level = same_level back.trail new.trail by.extends
+
+-- what was learned then stands as it did
+pub opposed_further : (now back new : Searched) (learned : Learned) (assumed : List Lit)
+    → Taught now back learned → HasPropagated back new
+    → AreInOrder now.clauses assumed now.trail.steps → AreOpposed new.clauses assumed learned.clause
+opposed_further now back new learned assumed is by order =
+    subst (λ clauses. AreOpposed clauses assumed learned.clause) (sym by.clauses)
+    (is.opposed assumed order)
 
 -- a literal that was unset is assigned by what came last
 came : (old new : Assigned) (lit : Lit) → Extends old new → value_of old.steps lit ≡ Unset

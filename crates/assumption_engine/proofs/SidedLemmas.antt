@@ -277,9 +277,9 @@ true_was_made P steps lit is all = go (step_of steps (variable lit)) refl is
 pub true_as_assumed : (IsKind : List Lit → Type 0) (clauses : List (List Lit)) (assumed : List Lit)
     (steps : List Step) → AreInOrder clauses assumed steps
     → AreTrueAsAssumed IsKind clauses assumed steps
-true_as_assumed IsKind clauses assumed steps order var is yes =
+true_as_assumed IsKind clauses assumed steps order var is is_yes =
     free_is_assumed IsKind clauses assumed var is
-    (true_was_made (IsAssumedOrFree clauses assumed) steps (positive var) yes order.free)
+    (true_was_made (IsAssumedOrFree clauses assumed) steps (positive var) is_yes order.free)
 
 -- the opposites of false literals are assumed or free
 pub opposed : (clauses : List (List Lit)) (assumed : List Lit) (steps : List Step)

@@ -23,7 +23,7 @@ use Rattle.assumption_engine.specs.declared.answer.Turn.TheVariants.{Going}
 use Rattle.assumption_engine.proofs.AnswerLemmas.{room_below}
 use Rattle.assumption_engine.proofs.SameLemmas.{pushed, right_moved, right_pushed}
 use Rattle.assumption_engine.proofs.TurnLemmas.{turn_given, turn_then}
-use Rattle.assumption_engine.proofs.DownLemmas.{new_work}
+use Rattle.assumption_engine.proofs.DownLemmas.{IsDown, new_work}
 use Rattle.assumption_engine.proofs.GoingLemmas.{counted_one, counted_then, goes_on_still}
 use Rattle.assumption_engine.proofs.GoingLemmas.{goes_on_then}
 use Rattle.assumption_engine.proofs.ProgressLemmas.{weight_longer, weight_no_less}
@@ -84,7 +84,7 @@ goes_on_back {meaning} {assumed} {level} {old} {new} {counted} back =
     (order_after_back old.clauses assumed old.trail level back.was_trail order)))
 
 -- what is in order stays so by propagating
-order_propagated : {assumed : List Lit} {old new : Searched} → HasPropagated old new
+pub order_propagated : {assumed : List Lit} {old new : Searched} → HasPropagated old new
     → AreInOrder old.clauses assumed old.trail.steps
     → AreInOrder new.clauses assumed new.trail.steps
 order_propagated {assumed} {old} {new} by order =
@@ -97,6 +97,14 @@ pub goes_on_propagated : {meaning : Meaning} {assumed : List Lit} {old new : Sea
 goes_on_propagated {meaning} {assumed} {old} {new} {counted} by =
     goes_on_still meaning assumed old new counted counted by.extends.vars by.clauses refl
     (order_propagated by)
+
+-- a search went on by going back over conflicts
+pub goes_on_down : (meaning : Meaning) (assumed : List Lit) (old new : Searched)
+    (before after : Counted) → after ≡ before → IsDown old new
+    → GoesOn meaning assumed old new before after
+goes_on_down meaning assumed old new before after same down =
+    goes_on_still meaning assumed old new before after down.vars down.clauses same
+    (down.order assumed)
 
 -- the trail then weighs no less
 weight_propagated : {old new : Searched} → HasPropagated old new
@@ -173,24 +181,26 @@ turned_still {one} {two} {before} {after} {state} {defined} {assumed} {stop} {co
     }
 
 -- a turn that goes on after propagation
-pub turned_on : {E : Type 0} {one two : Meaning} {assumed : List Lit} {old mid : Searched}
-    {counted : Counted} (three : Meaning) (followed : List Followed)
-    (defined there : List (List Lit)) (stop : ℕ) (new : Searched) (after : Counted)
-    (result : Result Turn E) → MeansTheSame one two → HasPropagated old mid
-    → IfOk result (HasTurned two three followed defined there assumed stop mid new counted after)
+pub turned_on : {E : Type 0} {one two : Meaning} {old mid : Searched}
+    {was defined : List (List Lit)} (three : Meaning) (followed : List Followed)
+    (there : List (List Lit)) (assumed : List Lit) (stop : ℕ) (new : Searched)
+    (counted after : Counted) (result : Result Turn E) → MeansTheSame one two → was ≡ defined
+    → HasPropagated old mid
+    → IfOk result (HasTurned two three followed was there assumed stop mid new counted after)
     → IfOk result (HasTurned one three followed defined there assumed stop old new counted after)
-turned_on {E} {one} {two} {assumed} {old} {mid} {counted} three followed defined there stop new
-    after (Ok turn) same by is =
+turned_on {E} {one} {two} {old} {mid} {was} {defined} three followed there assumed stop new counted
+    after (Ok turn) same kept by is =
     record {
       right = is.right;
       on =
           goes_on_then one two assumed old mid new counted counted after same
           (goes_on_propagated by) is.on;
       does =
-          turn_then one two defined assumed stop old mid new after turn same by.clauses
-          (weight_propagated by) is.does;
+          subst (λ d. IsTurn one d assumed stop old new after turn) kept
+          (turn_then one two was assumed stop old mid new after turn same by.clauses
+          (weight_propagated by) is.does);
     }
-turned_on three followed defined there stop new after (Err e) same by is = is
+turned_on three followed there assumed stop new counted after (Err e) same kept by is = is
 
 -- a turn that learned
 pub turned_learned : {E : Type 0} (one two : Meaning) (followed : List Followed)

@@ -73,6 +73,7 @@ pub record WentBack (level : ℕ) (old new : Searched) : Type 0 where
   pub present : present_level new.trail.steps ≡ level
   pub was_trail : IsTrail old.trail
   pub is_trail : IsTrail new.trail
+  pub of_store : IsTrailOf new.trail.steps new.clauses
 
 -- the clauses were propagated: forced assignments came last
 pub record HasPropagated (old new : Searched) : Type 0 where

@@ -16,9 +16,9 @@ use Rattle.assumption_engine.specs.declared.task.Task.TheVariants.{Learn, Take, 
 use Rattle.assumption_engine.specs.declared.task.Task.TheVariants.{Check}
 
 -- the clauses have nothing to say, and the theory gave a clause
-pub record MayTake (meaning : Meaning) (state : Searched) (given : List Lit) : Type 0 where
+pub record MayTake (meaning : Meaning) (state : Searched) (clause : List Lit) : Type 0 where
   pub fixpoint : IsFixpoint state.clauses state.trail.steps
-  pub given : IsGiven meaning state.trail given
+  pub given : IsGiven meaning state.trail clause
 
 -- an assumed literal is false
 pub record MustRefuse (assumed : List Lit) (steps : List Step) (lit : Lit) : Type 0 where

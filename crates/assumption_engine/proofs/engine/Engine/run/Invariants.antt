@@ -12,6 +12,7 @@ invariant-turns g l = record {
       l.self.state l.self.defined;
   same : MeansTheSame (g.T.Theory.meaning l.fn.self.theory) (g.T.Theory.meaning l.self.theory);
   defined : l.self.defined ≡ l.fn.self.defined;
+  dead : l.self.dead ≡ l.fn.self.dead;
   on : GoesOn (g.T.Theory.meaning l.fn.self.theory) l.assumed l.fn.self.state l.self.state
       l.fn.budget l.budget;
   room : HasRoom l.stop l.budget;
