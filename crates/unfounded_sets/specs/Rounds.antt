@@ -1,5 +1,5 @@
 -- What the rounds over the rules do to the founded atoms. No public clause cites this module.
-use Rattle.std.specs.Prelude.{◌≡◌, ◌≤◌, ◌<◌, ◌+◌, ℕ, Bool, not, List, [], ◌∷◌, All, Any, length}
+use Rattle.std.specs.Prelude.{◌≡◌, ◌≤◌, ◌<◌, ◌+◌, ℕ, Bool, false, not, List, [], ◌∷◌, All, Any, length}
 use Rattle.std.specs.Prelude.{count_by}
 use Rattle.std.specs.Bool.{OnTrue, OnFalse}
 use Rattle.ground_program.specs.Meaning.{IsIn, IsPart}
@@ -28,6 +28,11 @@ HasAtoms normal body = All (λ part. IsAtomOf normal part.lit.atom) body.parts
 pub record IsRuleIn (normal : Normal) (rule : NormalRule) : Type 0 where
   pub heads : All (IsAtomOf normal) rule.heads
   pub number : rule.body < length normal.bodies
+
+-- a set of so many places, all false
+pub record IsEmpty (places : ℕ) (set : List Bool) : Type 0 where
+  pub count : length set ≡ places
+  pub none : All (λ bit. bit ≡ false) set
 
 -- the number of places that are still false
 abbrev pub missing : List Bool → ℕ

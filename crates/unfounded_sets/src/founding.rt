@@ -1,10 +1,9 @@
 // Founding by rounds over the rules, until nothing changes.
-ghost use Rattle.std.specs.Prelude.{◌≡◌, ◌≤◌, ◌<◌, ◌+◌, ◌↔◌, [], ◌∷◌, All, IsTrue, false, length};
-ghost use Rattle.std.specs.Prelude.{replicate};
+ghost use Rattle.std.specs.Prelude.{◌≡◌, ◌≤◌, ◌<◌, ◌+◌, ◌↔◌, [], ◌∷◌, All, IsTrue, length};
 ghost use Rattle.normal_program.specs.Loop.{IsAtomOf};
 ghost use Rattle.unfounded_sets.specs.Founding.{founding_weight, IsReached};
 ghost use Rattle.unfounded_sets.specs.Rounds.{IsCovered, HasAtoms, IsRuleIn, AddsHeads, Tries};
-ghost use Rattle.unfounded_sets.specs.Rounds.{IsSettled};
+ghost use Rattle.unfounded_sets.specs.Rounds.{IsSettled, IsEmpty};
 
 use crate::values::{counts, is_false_atom, is_false_body};
 use clause_store::Trail;
@@ -14,7 +13,7 @@ use normal_program::{BodyOf, Normal, NormalRule};
 /// Founds all that can be founded, from nothing.
 pub fn found_all(normal: &Normal, trail: &Trail, founded: &mut Set)
     requires covered { IsCovered normal.now trail.now.vars }
-    requires empty { founded.old ≡ replicate (normal.now.atoms + 1) false }
+    requires empty { IsEmpty (normal.now.atoms + 1) founded.old }
     ensures { IsSettled normal.now trail.now.steps founded.new }
 {
     'rounds: while found_round(normal, trail, founded) {}

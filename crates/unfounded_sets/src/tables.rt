@@ -1,5 +1,6 @@
 // Sets of a fixed number of places.
-ghost use Rattle.std.specs.Prelude.{◌≡◌, false, replicate, length, IfOk};
+ghost use Rattle.std.specs.Prelude.{length, IfOk};
+ghost use Rattle.unfounded_sets.specs.Rounds.{IsEmpty};
 
 use ground_program::Set;
 use item_list::{List, NoMemory};
@@ -7,7 +8,7 @@ use std::alloc::Global;
 
 /// A set of so many places, all false.
 pub fn empty_set(alloc: Global, places: usize) -> Result<Set, NoMemory>
-    ensures { IfOk result (λ set. set ≡ replicate places false) }
+    ensures { IfOk result (IsEmpty places) }
 {
     let mut set = List::open();
     for _place in 0..places {
@@ -18,7 +19,7 @@ pub fn empty_set(alloc: Global, places: usize) -> Result<Set, NoMemory>
 
 /// Makes all places false.
 pub fn clear(set: &mut Set)
-    ensures { set.new ≡ replicate (length set.old) false }
+    ensures { IsEmpty (length set.old) set.new }
 {
     for place in 0..set.len() {
         set.set(place, false);
