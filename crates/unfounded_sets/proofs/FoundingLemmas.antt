@@ -53,7 +53,7 @@ weight_more steps less more parts part =
     (either-more it.lit.negated _ (has less it.lit.atom) (has more it.lit.atom)
     (part it.lit.atom)))
 
-some_weaker : {X : Type 0} (P Q : X → Type 0) (o : Option X) → ((x : X) → P x → Q x)
+pub some_weaker : {X : Type 0} (P Q : X → Type 0) (o : Option X) → ((x : X) → P x → Q x)
     → IsSomeAnd o P → IsSomeAnd o Q
 some_weaker P Q None more fact = fact
 some_weaker P Q (Some x) more fact = more x fact
@@ -101,7 +101,7 @@ missing_no_more : (steps : List Step) (front : List ℕ) (before mid : List Bool
 missing_no_more steps front before mid true so_far = omega (arith, so_far.nearer)
 missing_no_more steps front before mid false so_far = omega (arith, ap missing so_far.same)
 
-added_more : (mid : List Bool) (head : ℕ) → head < length mid → IsPart mid (set mid head true)
+pub added_more : (mid : List Bool) (head : ℕ) → head < length mid → IsPart mid (set mid head true)
 added_more mid head within atom here =
     ⊎_elim (λ (same : atom ≡ head). rw same (get_or-set_same mid head true false within))
     (λ (apart : atom ≡ head → ⊥). get_or-set_other mid head atom true false apart ∙ here)

@@ -106,8 +106,9 @@ pub record MarksFalse (steps : List Step) (parts : List Part) (before after : Li
         All (λ it. IsFalse steps (literal_of it.lit) → IsIn after it.lit.atom) parts
 
 -- the one false literal of a variable, if it has one
-abbrev pub IsFalseOf : List Step → ℕ → Lit → Type 0
-IsFalseOf steps var lit = IsFalse steps lit × (variable lit ≡ var)
+pub record IsFalseOf (steps : List Step) (var : ℕ) (lit : Lit) : Type 0 where
+  pub denied : IsFalse steps lit
+  pub of : variable lit ≡ var
 
 abbrev pub HasNoFalse : List Step → ℕ → Type 0
 HasNoFalse steps var = (lit : Lit) → variable lit ≡ var → ¬ IsFalse steps lit

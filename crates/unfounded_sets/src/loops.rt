@@ -157,7 +157,8 @@ pub fn write_wanted(
     wanted: &Set,
     out: &mut Clause,
 ) -> Result<(), NoMemory>
-    requires { length wanted.now ≤ trail.now.vars + 1 }
+    requires some { 1 ≤ length wanted.now }
+    requires few { length wanted.now ≤ trail.now.vars + 1 }
     ensures { IfOk result (λ _. AreWritten trail.now.steps wanted.now (length wanted.now) out.new) }
 {
     let vars = trail.vars();
