@@ -1,13 +1,12 @@
 -- What a try at a rule and a round over the rules do, and what the rounds come to.
-use Rattle.std.proofs.Common.{◌≡◌, ◌≤◌, ◌<◌, ◌+◌, ◌⊎◌, ℕ, Bool, true, false, List, [], ◌∷◌, ◌++◌}
+use Rattle.std.proofs.Common.{◌≡◌, ◌≤◌, ◌<◌, ◌+◌, ℕ, Bool, true, false, List, [], ◌∷◌, ◌++◌}
 use Rattle.std.proofs.Common.{length, set, get_or, Some, slice_get, arith, refl, sym, ap, ◌∙◌, subst}
-use Rattle.std.proofs.Common.{if◌then◌else◌, ⊎_elim, length-set, inl, inr, Option, None}
+use Rattle.std.proofs.Common.{if◌then◌else◌, ⊎_elim, length-set, Option, None}
 use Rattle.std.specs.Prelude.{All, IsSomeAnd}
-use Rattle.std.proofs.lemmas.Bool.{cases_Bool, cases_eq, cases_lt, both_ways}
-use Rattle.std.specs.Bool.{OnTrue, OnFalse}
+use Rattle.std.proofs.lemmas.Bool.{cases_eq, cases_lt, both_ways}
+use Rattle.std.specs.Bool.{OnFalse}
 use Rattle.std.proofs.lemmas.List.{get_or-set_same, get_or-set_other, get_or_past}
-use Rattle.std.proofs.lemmas.List.Elements.{All-nil, All-push, All-weaker, All-contains}
-use Rattle.ground_program.specs.declared.program.AtomLit.{AtomLit}
+use Rattle.std.proofs.lemmas.List.Elements.{All-nil, All-push, All-weaker}
 use Rattle.ground_program.specs.Meaning.{IsPart, IsIn, has}
 use Rattle.clause_store.specs.declared.step.Step.{Step}
 use Rattle.clause_store.specs.Standing.{IsFalse}
@@ -15,11 +14,10 @@ use Rattle.normal_program.specs.declared.normal.Part.{Part}
 use Rattle.normal_program.specs.declared.normal.BodyOf.{BodyOf}
 use Rattle.normal_program.specs.declared.normal.NormalRule.{NormalRule}
 use Rattle.normal_program.specs.declared.normal.Normal.{Normal}
-use Rattle.normal_program.specs.Normal.{body_var}
-use Rattle.normal_program.specs.Clauses.{positive, literal_of}
-use Rattle.item_list.proofs.ListLemmas.{All-left, All-right, sum_by-le_each, IsSomeAnd-found}
-use Rattle.unfounded_sets.specs.Founding.{is_false, counts_with, founding_weight, IsReached}
-use Rattle.unfounded_sets.specs.Founding.{HasHeads, Founds, IsClosed}
+use Rattle.normal_program.specs.Clauses.{positive}
+use Rattle.item_list.proofs.ListLemmas.{All-left, All-right, sum_by-le_each}
+use Rattle.unfounded_sets.specs.Founding.{counts_with, founding_weight, IsReached}
+use Rattle.unfounded_sets.specs.Founding.{Founds}
 use Rattle.unfounded_sets.specs.Rounds.{missing, AddsHeads, Tries, IsBelow, IsSettled, IsEmpty}
 use Rattle.unfounded_sets.proofs.ValueLemmas.{added_is_part, missing-added}
 

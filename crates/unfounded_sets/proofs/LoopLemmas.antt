@@ -1,5 +1,5 @@
 -- The unfounded atoms, and what is written for them.
-use Rattle.std.proofs.Common.{◌≡◌, ◌≢◌, ◌≤◌, ◌<◌, ◌+◌, ◌⊎◌, ℕ, Bool, true, false, not, List, [], ◌∷◌}
+use Rattle.std.proofs.Common.{◌≡◌, ◌≢◌, ◌≤◌, ◌<◌, ◌+◌, ℕ, Bool, true, false, not, List, [], ◌∷◌}
 use Rattle.std.proofs.Common.{◌++◌, length, get_or, Some, slice_get, arith, refl, sym, ap}
 use Rattle.std.proofs.Common.{◌∙◌, subst, if◌then◌else◌, ⊎_elim, inl, inr, Option}
 use Rattle.std.specs.Prelude.{All, Any, Contains, IsSomeAnd, ◌||◌}
@@ -11,15 +11,13 @@ use Rattle.std.proofs.lemmas.Option.{slice_get-get_or}
 use Rattle.std.proofs.lemmas.List.Elements.{All-push, Contains-get_or, Contains-push}
 use Rattle.std.proofs.lemmas.List.Elements.{Contains-append_left}
 use Rattle.std.proofs.lemmas.List.Quantifiers.{all_pairs_push}
-use Rattle.ground_program.specs.declared.program.AtomLit.{AtomLit}
-use Rattle.ground_program.specs.Meaning.{IsPart, IsIn, has}
+use Rattle.ground_program.specs.Meaning.{IsIn, has}
 use Rattle.clause_store.specs.declared.literal.Lit.{Lit}
-use Rattle.clause_store.specs.declared.literal.Value.{Value}
 use Rattle.clause_store.specs.declared.literal.Value.TheVariants.{Yes, No, Unset}
 use Rattle.clause_store.specs.declared.step.Step.{Step}
-use Rattle.clause_store.specs.Clause.{variable, IsOver, HasNoVariableTwice}
+use Rattle.clause_store.specs.Clause.{variable, IsOver}
 use Rattle.clause_store.specs.Trail.{Assigned, step_of, value_by, value_of}
-use Rattle.clause_store.specs.Standing.{IsFalse, ForcesOn}
+use Rattle.clause_store.specs.Standing.{IsFalse}
 use Rattle.clause_store.proofs.LiteralLemmas.{any_from, has_first, has_later, has_kept, kept_passes}
 use Rattle.normal_program.specs.declared.normal.Part.{Part}
 use Rattle.normal_program.specs.declared.normal.BodyOf.{BodyOf}
@@ -28,7 +26,7 @@ use Rattle.normal_program.specs.declared.normal.Normal.{Normal}
 use Rattle.normal_program.specs.Normal.{body_var, greatest_body_var}
 use Rattle.normal_program.specs.Clauses.{positive, negative, literal_of, is_lit, has_lit, has_atom}
 use Rattle.normal_program.specs.Clauses.{atoms_of_normal, numbers_from}
-use Rattle.normal_program.specs.Loop.{IsAtomOf, IsLoopClauseFor, IsLoopClause, AnswersFor}
+use Rattle.normal_program.specs.Loop.{IsAtomOf, IsLoopClause, AnswersFor}
 use Rattle.normal_program.specs.Loop.{is_beside, weight_beside}
 use Rattle.normal_program.specs.Spent.{atoms_in}
 use Rattle.item_list.proofs.ListLemmas.{sum_by-le_each}
@@ -39,15 +37,15 @@ use Rattle.normal_program.specs.Limit.{IsNormal}
 use Rattle.normal_program.specs.Range.{IsInRange}
 use Rattle.normal_program.proofs.lemmas.Base.CleanLemmas.{kept_from}
 use Rattle.normal_program.proofs.lemmas.Base.EntailedLemmas.{numbers_within}
-use Rattle.unfounded_sets.specs.Founding.{is_false, IsFounded, IsReached, Founds, IsClosed}
+use Rattle.unfounded_sets.specs.Founding.{is_false, IsReached, Founds, IsClosed}
 use Rattle.unfounded_sets.specs.Founding.{founding_weight, counts_with}
-use Rattle.unfounded_sets.specs.Found.{AreFounded, IsUnfounded, IsGiven, IsLoopWritten}
+use Rattle.unfounded_sets.specs.Found.{AreFounded, IsGiven, IsLoopWritten}
 use Rattle.unfounded_sets.specs.Rounds.{IsCovered, IsSettled, IsOutside, HasValued}
-use Rattle.unfounded_sets.specs.Wanted.{IsOpen, HasOpen, IsOpenPart, IsLoopPart, IsBlocked, BlocksIn}
+use Rattle.unfounded_sets.specs.Wanted.{IsOpen, HasOpen, IsOpenPart, IsLoopPart, BlocksIn}
 use Rattle.unfounded_sets.specs.Wanted.{IsAnswered, Wants, AreWritten, weight_left, weight_possible}
 use Rattle.unfounded_sets.specs.Wanted.{is_over, is_wanted}
-use Rattle.unfounded_sets.proofs.ValueLemmas.{false_if, false_is, not_false_if, not_false_is}
-use Rattle.unfounded_sets.proofs.ValueLemmas.{same_false, false_atom, yes_or_unset, yes_or_no}
+use Rattle.unfounded_sets.proofs.ValueLemmas.{false_if, not_false_if}
+use Rattle.unfounded_sets.proofs.ValueLemmas.{false_atom, yes_or_unset, yes_or_no}
 use Rattle.unfounded_sets.proofs.WantedLemmas.{and-true}
 
 -- ---- open atoms
@@ -363,15 +361,16 @@ module _ (normal : Normal) (trail : Assigned) (part before wanted : List Bool) (
             (λ lit here. Contains-append_left lits (denial ∷ []) lit here) atom loop covered.range
             wants.answered (Contains-push lits denial);
         standing =
-            inr
-            (denial,
-            record {
-              here = Contains-push lits denial;
-              unset = unset;
-              others =
-                  All-push (λ other. other ≢ denial → IsFalse trail.steps other) lits denial
-                  (λ k d within other. up_to_last.falses k d within) (λ other. absurd (other refl));
-            });
+            inr (
+              denial,
+              record {
+                here = Contains-push lits denial;
+                unset = unset;
+                others =
+                    All-push (λ other. other ≢ denial → IsFalse trail.steps other) lits denial
+                    (λ k d within other. up_to_last.falses k d within) (λ other. absurd (other refl));
+              },
+            );
         once =
             all_pairs_push (λ one two. variable one ≢ variable two) lits denial up_to_last.once
             (λ k d within same. unset_apart trail.steps (get_or lits k d) denial same

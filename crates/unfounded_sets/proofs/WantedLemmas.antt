@@ -1,14 +1,13 @@
 -- What the marked literals of a loop clause come to.
-use Rattle.std.proofs.Common.{◌≡◌, ◌≢◌, ◌≤◌, ◌<◌, ◌+◌, ◌⊎◌, ℕ, Bool, true, false, List, [], ◌∷◌}
-use Rattle.std.proofs.Common.{◌++◌, length, set, get_or, Some, None, slice_get, arith, refl, sym, ap}
-use Rattle.std.proofs.Common.{◌∙◌, subst, if◌then◌else◌, ⊎_elim, length-set, inl, inr, Option}
+use Rattle.std.proofs.Common.{◌≡◌, ◌≢◌, ◌≤◌, ◌<◌, ◌+◌, ℕ, Bool, true, false, List, [], ◌∷◌}
+use Rattle.std.proofs.Common.{◌++◌, length, set, get_or, Some, slice_get, arith, refl, sym}
+use Rattle.std.proofs.Common.{◌∙◌, subst, if◌then◌else◌, ⊎_elim, length-set, inl, inr}
 use Rattle.std.specs.Prelude.{All, Any, Contains, IsSomeAnd, ◌||◌, ◌&&◌}
-use Rattle.std.proofs.lemmas.Bool.{cases_Bool, cases_eq, both_ways}
-use Rattle.std.proofs.lemmas.List.{get_or-set_same, get_or-set_other}
-use Rattle.std.proofs.lemmas.List.Elements.{All-nil, All-push, All-weaker, Contains-get_or}
+use Rattle.std.proofs.lemmas.Bool.{cases_eq}
+use Rattle.std.proofs.lemmas.List.{get_or-set_same}
+use Rattle.std.proofs.lemmas.List.Elements.{All-nil, All-push, All-weaker}
 use Rattle.std.proofs.lemmas.List.Elements.{Contains-push, Contains-append_left}
 use Rattle.std.proofs.lemmas.List.Quantifiers.{all_pairs_push}
-use Rattle.ground_program.specs.declared.program.AtomLit.{AtomLit}
 use Rattle.ground_program.specs.Meaning.{IsPart, IsIn, has}
 use Rattle.clause_store.specs.declared.literal.Lit.{Lit}
 use Rattle.clause_store.specs.declared.step.Step.{Step}
@@ -20,12 +19,12 @@ use Rattle.normal_program.specs.declared.normal.NormalRule.{NormalRule}
 use Rattle.normal_program.specs.declared.normal.Normal.{Normal}
 use Rattle.normal_program.specs.Normal.{body_var}
 use Rattle.normal_program.specs.Clauses.{positive, literal_of}
-use Rattle.item_list.proofs.ListLemmas.{sum_by-le_each, IsSomeAnd-found}
+use Rattle.item_list.proofs.ListLemmas.{sum_by-le_each}
 use Rattle.unfounded_sets.specs.Founding.{is_false}
 use Rattle.unfounded_sets.specs.Wanted.{is_over, is_wanted, weight_off, weight_possible, weight_left}
-use Rattle.unfounded_sets.specs.Wanted.{IsBlocked, BlocksIn, IsAnswered, AreAnswered, Wants}
+use Rattle.unfounded_sets.specs.Wanted.{BlocksIn, IsAnswered, Wants}
 use Rattle.unfounded_sets.specs.Wanted.{MarksFalse, PutsFalse, AreWritten}
-use Rattle.unfounded_sets.proofs.ValueLemmas.{false_if, false_is, same_false}
+use Rattle.unfounded_sets.proofs.ValueLemmas.{false_if, same_false}
 use Rattle.unfounded_sets.proofs.FoundingLemmas.{All-one, added_more, some_weaker}
 
 -- ---- weights

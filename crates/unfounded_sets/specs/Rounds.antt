@@ -1,5 +1,5 @@
 -- What the rounds over the rules do to the founded atoms. No public clause cites this module.
-use Rattle.std.specs.Prelude.{◌≡◌, ◌≤◌, ◌<◌, ◌+◌, ℕ, Bool, false, not, List, [], ◌∷◌, All, Any, length}
+use Rattle.std.specs.Prelude.{◌≡◌, ◌≤◌, ◌<◌, ◌+◌, ℕ, Bool, false, not, List, All, length}
 use Rattle.std.specs.Prelude.{count_by}
 use Rattle.std.specs.Bool.{OnTrue, OnFalse}
 use Rattle.ground_program.specs.Meaning.{IsIn, IsPart}

@@ -10,8 +10,7 @@ ghost use Rattle.unfounded_sets.specs.Wanted.{Wants, MarksFalse, AreWritten, Put
 ghost use Rattle.unfounded_sets.specs.Wanted.{IsLoopPart, HasOpen};
 ghost use Rattle.unfounded_sets.specs.Found.{IsLoopWritten};
 
-use crate::values::{false_literal, is_false_atom, is_false_body, is_false_part, is_over};
-use crate::values::outside;
+use crate::values::{false_literal, is_false_atom, is_false_body, is_false_part, is_over, outside};
 use clause_store::{Clause, Trail, Value, Var};
 use ground_program::{Set, has_atom};
 use item_list::NoMemory;
@@ -64,13 +63,7 @@ pub fn mark_answers(normal: &Normal, trail: &Trail, part: &Set, wanted: &mut Set
 
 /// Marks what a rule needs: nothing where literals over the part hold it below its bound, its
 /// body's variable where that is false, or else the false literals of its body.
-fn mark_answer(
-    normal: &Normal,
-    trail: &Trail,
-    rule: &NormalRule,
-    part: &[bool],
-    wanted: &mut Set,
-)
+fn mark_answer(normal: &Normal, trail: &Trail, rule: &NormalRule, part: &[bool], wanted: &mut Set)
     requires covered { IsCovered normal.now trail.now.vars }
     requires rule { IsRuleIn normal.now rule.now }
     requires blocked { BlocksIn normal.now trail.now.steps part.now rule.now }

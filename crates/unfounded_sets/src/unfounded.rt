@@ -88,7 +88,15 @@ impl Unfounded {
             Some(atom) => {
                 mark_open(normal, trail, &self.founded, &mut self.part);
                 clear(&mut self.wanted);
-                write_loop(alloc, normal, trail, &self.part, atom, &mut self.wanted, out)?;
+                write_loop(
+                    alloc,
+                    normal,
+                    trail,
+                    &self.part,
+                    atom,
+                    &mut self.wanted,
+                    out,
+                )?;
                 Ok(Found::Loop)
             }
         }

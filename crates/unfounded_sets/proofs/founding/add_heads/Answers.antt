@@ -1,5 +1,5 @@
-use Rattle.std.proofs.Common.{◌≡◌, ◌+◌, ◌++◌, ◌∷◌, [], ℕ, true, false, take, get_or, refl, rules, subst}
-use Rattle.std.proofs.Common.{sym, arith, length, ◌<◌}
+use Rattle.std.proofs.Common.{◌≡◌, ◌+◌, ◌++◌, ◌∷◌, [], ℕ, true, false, take, get_or, rules}
+use Rattle.std.proofs.Common.{length, ◌<◌}
 use Rattle.std.proofs.lemmas.List.{get_or_default}
 use Rattle.ground_program.specs.Meaning.{has}
 use Rattle.normal_program.specs.Clauses.{positive}

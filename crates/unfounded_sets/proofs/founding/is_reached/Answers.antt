@@ -1,5 +1,5 @@
-use Rattle.std.proofs.Common.{◌≡◌, ◌≤◌, false, rules, sym, ap, subst, ◌∙◌}
-use Rattle.std.specs.Prelude.{IsSomeAnd, slice_get}
+use Rattle.std.proofs.Common.{◌≡◌, ◌≤◌, false, rules, sym, subst}
+use Rattle.std.specs.Prelude.{IsSomeAnd}
 use Rattle.normal_program.specs.declared.normal.BodyOf.{BodyOf}
 use Rattle.normal_program.specs.Normal.{body_var}
 use Rattle.normal_program.specs.Clauses.{positive}
@@ -14,9 +14,8 @@ returns-then-not-is_false_body c =
     let out : is_false steps lit ≡ false = search rules in
     let here = c.get-body.ensures in
     let P = λ (body : BodyOf). body.bound
-        ≤ founding_weight steps c.args.founded.now body.parts in
-    let known = rw c.as_slice.ensures at c.reaches.ensures in
-    (
+    ≤ founding_weight steps c.args.founded.now body.parts in
+    let known = rw c.as_slice.ensures at c.reaches.ensures in (
       λ yes. record {
         possible = not_false_if steps lit out;
         enough = subst (λ o. IsSomeAnd o P) (sym here) (known.0 yes);

@@ -1,4 +1,4 @@
-use Rattle.std.proofs.Common.{◌≡◌, ◌<◌, true, false, rules, subst, All, sym}
+use Rattle.std.proofs.Common.{◌≡◌, false, rules, subst, All}
 use Rattle.std.proofs.lemmas.Bool.{iff_false}
 use Rattle.std.proofs.lemmas.Option.{get_or_from_slice_get}
 use Rattle.normal_program.specs.declared.normal.BodyOf.{BodyOf}

@@ -1,4 +1,4 @@
-use Rattle.std.proofs.Common.{◌≡◌, ◌≢◌, ◌∙◌, sym, subst, rules, true, length, set, length-set}
+use Rattle.std.proofs.Common.{◌≡◌, ◌≢◌, ◌∙◌, rules, true, set, length-set}
 use Rattle.clause_store.specs.declared.literal.Value.TheVariants.{Unset}
 use Rattle.clause_store.specs.Trail.{value_of}
 use Rattle.clause_store.proofs.LiteralLemmas.{lit_of_code}
@@ -12,7 +12,7 @@ returns-in_ok-push-clause-written c =
     let is : c.negative-denial.result ≡ negative c.args.atom =
     lit_of_code c.negative-denial.result (negative c.args.atom) c.negative-denial.ensures in
     let wants : Wants c.args.normal.now c.args.trail.now.steps c.args.part.now
-        c.args.normal.now.rules (set c.args.wanted.now c.args.atom true) c.mark_answers.new.wanted =
+    c.args.normal.now.rules (set c.args.wanted.now c.args.atom true) c.mark_answers.new.wanted =
     search rules in
     let unset : value_of c.args.trail.now.steps (negative c.args.atom) ≡ Unset = search rules in
     rw (c.in_ok-push.ensures.ok, is)
@@ -23,7 +23,7 @@ returns-in_ok-push-clause-written c =
 pub returns-in_default : goal.returns-in_default
 returns-in_default c =
     let wants : Wants c.args.normal.now c.args.trail.now.steps c.args.part.now
-        c.args.normal.now.rules (set c.args.wanted.now c.args.atom true) c.mark_answers.new.wanted =
+    c.args.normal.now.rules (set c.args.wanted.now c.args.atom true) c.mark_answers.new.wanted =
     search rules in
     let known : value_of c.args.trail.now.steps (negative c.args.atom) ≢ Unset = search rules in
     record {

@@ -1,4 +1,4 @@
-use Rattle.std.proofs.Common.{◌≡◌, ◌+◌, ◌<◌, true, false, length, rules, arith, subst, sym}
+use Rattle.std.proofs.Common.{◌≡◌, false, length, rules, arith, subst}
 use Rattle.std.proofs.lemmas.Bool.{both_ways}
 use Rattle.ground_program.specs.Meaning.{has}
 use Rattle.unfounded_sets.specs.Wanted.{AreWritten}
@@ -30,7 +30,12 @@ returns c =
     let some = c.requires.some in
     let count = c.len-var-end.ensures in
     let last : c.loop-var.var ≡ length c.args.wanted.now =
-    omega (arith, some, count, c.loop-var-test.false,
-        c.loop-var.auto.var-end (omega (arith, some, count))) in
+    omega (
+      arith,
+      some,
+      count,
+      c.loop-var-test.false,
+      c.loop-var.auto.var-end (omega (arith, some, count)),
+    ) in
     subst (λ to. AreWritten c.args.trail.now.steps c.args.wanted.now to c.loop-var.out) last
     c.loop-var.invariant.1
