@@ -1,6 +1,6 @@
 -- What weight bodies and founding give is what the theory gives, and what it accepts extends an
 -- answer set.
-use Rattle.std.proofs.Common.{◌≡◌, ◌≤◌, ◌⊎◌, Bool, List, Option, None, inl, inr, subst, sym}
+use Rattle.std.proofs.Common.{◌≡◌, Bool, List, Option, None, inl, inr, subst}
 use Rattle.clause_store.specs.declared.literal.Lit.{Lit}
 use Rattle.clause_store.specs.declared.theory_says.Says.{Says}
 use Rattle.clause_store.specs.declared.theory_says.Says.TheVariants.{Quiet, Clause as Given}

@@ -1,22 +1,20 @@
 -- A founded model is an answer set: a part of it that keeps the reduct has each founded atom.
-use Rattle.std.proofs.Common.{◌≡◌, ◌≢◌, ◌≤◌, ◌<◌, ◌+◌, ◌⊎◌, ℕ, Bool, true, false, not, cond, List, []}
+use Rattle.std.proofs.Common.{◌≡◌, ◌≢◌, ◌≤◌, ◌⊎◌, ℕ, Bool, true, false, not, cond, List, []}
 use Rattle.std.proofs.Common.{◌∷◌, get_or, length, Some, None, Option, slice_get, refl, sym, ap, ◌∙◌}
 use Rattle.std.proofs.Common.{subst, arith, ⊎_elim, inl, inr, suc}
 use Rattle.std.specs.Prelude.{All, Any, sum_by, if◌then◌else◌, IsSomeAnd}
 use Rattle.std.proofs.lemmas.Bool.{cases_Bool, cases_lt, cases_eq, both_ways}
 use Rattle.std.proofs.lemmas.List.{ext_get_or, get_or_past}
-use Rattle.std.proofs.lemmas.List.Elements.{All-nil, All-cons, All-head, All-tail}
+use Rattle.std.proofs.lemmas.List.Elements.{All-nil, All-cons}
 use Rattle.std.proofs.lemmas.Option.{slice_get-get_or, get_or_from_slice_get}
 use Rattle.ground_program.specs.declared.program.Kind.{Kind}
 use Rattle.ground_program.specs.declared.program.Kind.TheVariants.{Basic, Constraint, Choice}
 use Rattle.ground_program.specs.declared.program.Kind.TheVariants.{Weight, Disjunctive}
-use Rattle.ground_program.specs.declared.program.AtomLit.{AtomLit}
-use Rattle.ground_program.specs.Meaning.{has, counts, IsIn, IsPart, HeadHolds, IsProperSubset}
+use Rattle.ground_program.specs.Meaning.{has, IsIn, IsPart, HeadHolds, IsProperSubset}
 use Rattle.ground_program.specs.Meaning.{IsSetOver}
 use Rattle.ground_program.proofs.MeaningLemmas.{IsDecided, HeadHolds-decided}
 use Rattle.clause_store.specs.declared.literal.Value.{Value}
-use Rattle.clause_store.specs.declared.literal.Value.TheVariants.{Yes, No, Unset}
-use Rattle.clause_store.specs.Clause.{Meets}
+use Rattle.clause_store.specs.declared.literal.Value.TheVariants.{Yes, No}
 use Rattle.clause_store.specs.Trail.{Assigned, value_of, values_of}
 use Rattle.clause_store.specs.Standing.{IsFalse}
 use Rattle.normal_program.specs.declared.normal.Part.{Part}
@@ -24,18 +22,17 @@ use Rattle.normal_program.specs.declared.normal.BodyOf.{BodyOf}
 use Rattle.normal_program.specs.declared.normal.NormalRule.{NormalRule}
 use Rattle.normal_program.specs.declared.normal.Normal.{Normal}
 use Rattle.normal_program.specs.Body.{part_weight, weight_of, BodyHoldsN}
-use Rattle.normal_program.specs.Normal.{RuleBodyHolds, KeepsN, KeepsAllN, SomeFailsN, IsAnswerSetN}
-use Rattle.normal_program.specs.Clauses.{positive, literal_of, base_clauses}
+use Rattle.normal_program.specs.Normal.{RuleBodyHolds, KeepsN, KeepsAllN, SomeFailsN}
+use Rattle.normal_program.specs.Clauses.{positive, literal_of}
 use Rattle.normal_program.specs.Loop.{IsAtomOf}
 use Rattle.normal_program.specs.Limit.{IsNormal}
-use Rattle.normal_program.specs.Models.{set_of, IsModelOf}
+use Rattle.normal_program.specs.Models.{set_of}
 use Rattle.item_list.proofs.ListLemmas.{sum_by-agree}
 use Rattle.normal_program.proofs.lemmas.Base.ModelLemmas.{base_clauses-make_models}
-use Rattle.weight_propagator.specs.Gives.{IsQuiet}
-use Rattle.unfounded_sets.specs.Founding.{is_no, is_false, counts_with, founding_weight, HasHeads}
+use Rattle.unfounded_sets.specs.Founding.{is_no, counts_with, founding_weight, HasHeads}
 use Rattle.unfounded_sets.specs.Founding.{IsClosed}
 use Rattle.unfounded_sets.specs.Found.{AreFounded}
-use Rattle.coherence_test.specs.AnswerSets.{ExtendsAnswerSet, HasNoDisjunction}
+use Rattle.coherence_test.specs.AnswerSets.{HasNoDisjunction}
 use Rattle.coherence_test.specs.Laws.{IsTotalOver, FoundedModelsAreAnswerSets}
 use Rattle.coherence_test.proofs.TotalLemmas.{total_assignment}
 use Rattle.coherence_test.proofs.QuietLemmas.{in_range, atom_value, part_value, atoms_of_body}

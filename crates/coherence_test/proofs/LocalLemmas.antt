@@ -1,8 +1,6 @@
 -- Local clauses hold in each assignment that extends an answer set.
-use Rattle.std.proofs.Common.{◌≡◌, ◌+◌, ℕ, Bool, true, false, not, List, [], ◌∷◌, ◌++◌, map, length}
-use Rattle.std.proofs.Common.{take, drop, refl, sym, ap, ◌∙◌, subst, arith}
-use Rattle.std.specs.Prelude.{IsTrue}
-use Rattle.std.specs.List.{AllZip}
+use Rattle.std.proofs.Common.{◌≡◌, ◌+◌, Bool, false, not, List, [], ◌∷◌, ◌++◌, map, length}
+use Rattle.std.proofs.Common.{drop, sym, ap, ◌∙◌, subst, arith}
 use Rattle.std.proofs.lemmas.List.{take-append-drop, get_or_append_left}
 use Rattle.std.proofs.lemmas.Option.{get_or_from_slice_get}
 use Rattle.ground_program.specs.Meaning.{IsSetOver}
@@ -12,13 +10,10 @@ use Rattle.normal_program.specs.declared.normal.Normal.{Normal}
 use Rattle.normal_program.specs.Body.{body_holds}
 use Rattle.normal_program.specs.Normal.{extension}
 use Rattle.normal_program.specs.Clauses.{negative, alone, AreChosen}
-use Rattle.normal_program.specs.Loop.{IsLocal}
-use Rattle.normal_program.specs.Limit.{IsNormal}
-use Rattle.normal_program.specs.Models.{set_of, front_of}
+use Rattle.normal_program.specs.Models.{set_of}
 use Rattle.normal_program.proofs.RangeLemmas.{IsNormal-in_range}
 use Rattle.normal_program.proofs.lemmas.Base.TruthLemmas.{makes_true-negative, HoldsIn-here}
 use Rattle.normal_program.proofs.lemmas.Entailed.GroundedLemmas.{local-entailed}
-use Rattle.coherence_test.specs.AnswerSets.{ExtendsAnswerSet}
 use Rattle.coherence_test.specs.Laws.{LocalClausesHold}
 
 -- disjunctions that hold wherever place 0 is false, one for each value

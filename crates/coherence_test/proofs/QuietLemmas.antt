@@ -1,22 +1,20 @@
 -- On a total trail where no weight body gives a clause, weight bodies mean what they should.
 use Rattle.std.proofs.Common.{◌≡◌, ◌≢◌, ◌≤◌, ◌<◌, ◌+◌, ℕ, Bool, true, false, not, cond, List, get_or}
-use Rattle.std.proofs.Common.{length, take, Some, None, slice_get, refl, sym, ap, ◌∙◌, subst, arith}
+use Rattle.std.proofs.Common.{length, Some, None, slice_get, refl, sym, ap, ◌∙◌, subst, arith}
 use Rattle.std.proofs.Common.{⊎_elim, leb, get_or-take}
 use Rattle.std.specs.Prelude.{All, sum_by, if◌then◌else◌}
-use Rattle.std.proofs.lemmas.Bool.{cases_Bool, cases_lt, le-leb, leb-true, both_ways, true≢false}
+use Rattle.std.proofs.lemmas.Bool.{cases_Bool, cases_lt, le-leb, leb-true, true≢false}
 use Rattle.std.proofs.lemmas.Option.{slice_get_within, get_or_from_slice_get}
 use Rattle.ground_program.specs.declared.program.AtomLit.{AtomLit}
 use Rattle.ground_program.specs.Meaning.{has, counts}
-use Rattle.clause_store.specs.declared.literal.Lit.{Lit}
-use Rattle.clause_store.specs.declared.literal.Value.{Value}
-use Rattle.clause_store.specs.declared.literal.Value.TheVariants.{Yes, No, Unset}
-use Rattle.clause_store.specs.Clause.{variable, makes_true, truth, IsOver}
+use Rattle.clause_store.specs.declared.literal.Value.TheVariants.{Yes, No}
+use Rattle.clause_store.specs.Clause.{truth}
 use Rattle.clause_store.specs.Trail.{Assigned, value_of, values_of}
 use Rattle.normal_program.specs.declared.normal.Part.{Part}
 use Rattle.normal_program.specs.declared.normal.BodyOf.{BodyOf}
 use Rattle.normal_program.specs.declared.normal.Normal.{Normal}
-use Rattle.normal_program.specs.Body.{part_weight, weight_of, body_holds, IsWeightBody}
-use Rattle.normal_program.specs.Normal.{body_var, greatest_body_var}
+use Rattle.normal_program.specs.Body.{part_weight, weight_of}
+use Rattle.normal_program.specs.Normal.{body_var}
 use Rattle.normal_program.specs.Clauses.{positive, literal_of}
 use Rattle.normal_program.specs.Loop.{IsAtomOf}
 use Rattle.normal_program.specs.Limit.{IsNormal}

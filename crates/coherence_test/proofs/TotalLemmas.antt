@@ -1,6 +1,6 @@
 -- The values of a total trail, and the assignment that it stands for.
-use Rattle.std.proofs.Common.{◌≡◌, ◌≢◌, ◌≤◌, ◌<◌, ◌+◌, ◌*◌, ◌/◌, ℕ, Bool, true, false, not, cond, eqb}
-use Rattle.std.proofs.Common.{List, length, map, get_or, Option, Some, None, slice_get, refl, sym, ap}
+use Rattle.std.proofs.Common.{◌≡◌, ◌≢◌, ◌+◌, ◌*◌, Bool, true, false, cond, eqb}
+use Rattle.std.proofs.Common.{length, get_or, Option, Some, None, refl, sym, ap}
 use Rattle.std.proofs.Common.{◌∙◌, arith, ⊎_elim}
 use Rattle.std.specs.Prelude.{IsSome}
 use Rattle.std.specs.List.{range_with_len}
@@ -12,7 +12,7 @@ use Rattle.clause_store.specs.declared.literal.Lit.{Lit}
 use Rattle.clause_store.specs.declared.literal.Value.{Value}
 use Rattle.clause_store.specs.declared.literal.Value.TheVariants.{Yes, No, Unset}
 use Rattle.clause_store.specs.declared.step.Step.{Step}
-use Rattle.clause_store.specs.Clause.{variable, makes_true, truth, IsOver}
+use Rattle.clause_store.specs.Clause.{variable, makes_true, IsOver}
 use Rattle.clause_store.specs.Trail.{Assigned, IsTrail, IsTotal, is_yes, step_of, value_by, value_of}
 use Rattle.clause_store.specs.Trail.{values_of}
 use Rattle.clause_store.proofs.LiteralLemmas.{coded}

@@ -1,8 +1,9 @@
-use Rattle.std.proofs.Common.{sym, rules}
 use Rattle.coherence_test.proofs.GivenLemmas.{weight_given, loop_given, accepted}
 use Rattle.coherence_test.proofs.theory.AnswerSetTheoryTheory.complete_check.Goals as goal
 use Rattle.coherence_test.proofs.theory.AnswerSetTheoryTheory.complete_check.Goals.{
-  in-Err-find, in-Ok-Loop, in-Ok-Nothing,
+  in-Err-find,
+  in-Ok-Loop,
+  in-Ok-Nothing,
 }
 
 pub returns-in-Ok-Clause-clause-answer : goal.returns-in-Ok-Clause-clause-answer

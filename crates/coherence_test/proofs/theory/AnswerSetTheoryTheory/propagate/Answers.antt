@@ -1,4 +1,3 @@
-use Rattle.std.proofs.Common.{sym, rules}
 use Rattle.coherence_test.proofs.GivenLemmas.{weight_given, loop_given}
 use Rattle.coherence_test.proofs.theory.AnswerSetTheoryTheory.propagate.Goals as goal
 use Rattle.coherence_test.proofs.theory.AnswerSetTheoryTheory.propagate.Goals.{in-Loop, in-Nothing}
