@@ -7,3 +7,5 @@ pub mod BodyLemmas
 pub mod KeptLemmas
 pub mod MeaningLemmas
 pub mod RowsLemmas
+pub mod StackLemmas
+pub mod SumLemmas

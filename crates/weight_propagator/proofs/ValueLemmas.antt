@@ -26,7 +26,7 @@ or_none true b is = absurd (false≢true (sym is))
 or_none false b is = (refl, is)
 
 -- two literals of one variable have one value only if they are the same
-other_code : (one two step : ℕ) → one / 2 ≡ two / 2 → step / 2 ≡ one / 2 → step ≢ one → step ≢ two
+pub other_code : (one two step : ℕ) → one / 2 ≡ two / 2 → step / 2 ≡ one / 2 → step ≢ one → step ≢ two
     → one ≡ two
 other_code one two step same here not_one not_two = omega arith
 

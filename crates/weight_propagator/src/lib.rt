@@ -2,10 +2,14 @@
 #![tactic(auto)]
 
 mod build;
+mod gathering;
 mod look;
+mod occurrences;
 mod reason;
 mod row;
 mod side;
+mod tally;
+mod waiting;
 mod weights;
 
 pub use weights::Weights;
