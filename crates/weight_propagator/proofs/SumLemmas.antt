@@ -145,12 +145,13 @@ module _ (front : List Step) (step : Step)
     where
       absent : (code : ℕ) → code_sum one_each code terms ≡ 0 → (get_or terms k d).lit.0 ≢ code
       absent code none here =
-          let low : cond (eqb (get_or terms k d).lit.0 code) 1 0 ≤ code_sum one_each code terms =
+          let low : cond (eqb (get_or terms k d).lit.0 code) (one_each 0) 0
+          ≤ code_sum one_each code terms =
           get_or-le-sum_by
           (λ (term : Term). if eqb term.lit.0 code then one_each term.weight else 0) terms k d
           within in
-          let one : cond (eqb (get_or terms k d).lit.0 code) 1 0 ≡ 1 =
-          ap (λ b. cond b 1 0) (eq-eqb (get_or terms k d).lit.0 code here) in
+          let one : cond (eqb (get_or terms k d).lit.0 code) (one_each 0) 0 ≡ one_each 0 =
+          ap (λ b. cond b (one_each 0) 0) (eq-eqb (get_or terms k d).lit.0 code here) in
           omega (arith, low, one, none)
 
 at_most : (b : Bool) (weight : ℕ) → cond b weight 0 ≤ weight
@@ -168,7 +169,7 @@ on_sum_most side steps terms =
 
 -- ---- a body whose literals keep their values gives what it gave
 
-none_weighs : (b : Bool) → cond b 0 0 ≡ 0
+none_weighs : (b : Bool) → cond b (itself 0) 0 ≡ itself 0
 none_weighs true = refl
 none_weighs false = refl
 

@@ -1,5 +1,5 @@
 // The places of all literals, gathered body by body.
-ghost use Rattle.std.specs.Prelude.{◌≡◌, ◌<◌, ◌≤◌, ◌*◌, ◌^◌, ◌∷◌, [], All, length, replicate, IfOk};
+ghost use Rattle.std.specs.Prelude.{◌≡◌, ◌<◌, ◌+◌, ◌*◌, ◌^◌, ◌∷◌, [], All, length, replicate, IfOk};
 ghost use Rattle.weight_propagator.specs.Rows.{IsRow};
 ghost use Rattle.weight_propagator.specs.Sums.{AreOccurrences, AreEntered, looked_at};
 
@@ -40,6 +40,7 @@ fn enter_row(
     number: u32,
     row: &Row,
 ) -> Result<(), NoMemory>
+    requires few { row.now.var.0 < 2 ^ 31 }
     requires small { 2 * row.now.var.0 + 1 < length lists.old.items }
     requires within { All (λ term. term.lit.0 < length lists.old.items) row.now.terms }
     ensures entered { IfOk result
@@ -57,7 +58,8 @@ fn enter_row(
     };
     enter(alloc, lists, number, yes)?;
     enter(alloc, lists, number, no)?;
-    enter_terms(alloc, lists, number, row.terms.as_slice())
+    enter_terms(alloc, lists, number, row.terms.as_slice())?;
+    Ok(())
 }
 
 // Enters literals of a body.

@@ -7,6 +7,7 @@ mod look;
 mod occurrences;
 mod reason;
 mod row;
+mod settling;
 mod side;
 mod tally;
 mod waiting;

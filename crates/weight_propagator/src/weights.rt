@@ -1,6 +1,6 @@
 // The weight bodies with their sums. What the trail has beyond the followed assignments is followed
 // first; then only the bodies that were touched are looked at.
-ghost use Rattle.std.specs.Prelude.{◌≡◌, ◌≤◌, ◌≢◌, ◌-◌, ◌++◌, ◌∷◌, [], map, length, take, slice_get};
+ghost use Rattle.std.specs.Prelude.{◌≡◌, ◌≤◌, ◌≢◌, ◌-◌, ◌++◌, ◌∷◌, [], map, length, take};
 ghost use Rattle.std.specs.Prelude.{Some, None, All, OnOk, OnErr, IfOk, IfSome};
 ghost use Rattle.ground_program.specs.Meaning.{IsSetOver};
 ghost use Rattle.clause_store.specs.Clause.{variable};
@@ -11,9 +11,9 @@ ghost use Rattle.weight_propagator.specs.Weighed.{IsSaid};
 
 use crate::build::rows_of;
 use crate::gathering::gather;
-use crate::look::Sums;
 use crate::occurrences::Occurrences;
 use crate::row::Row;
+use crate::settling::settle;
 use crate::tally::{Tally, Way};
 use clause_store::{Clause, Says, Step, Trail};
 use ground_program::Set;
@@ -114,7 +114,7 @@ impl Weights {
     {
         let _ = normal;
         self.follow(trail)?;
-        self.settle(alloc, trail, out)
+        settle(alloc, &self.rows, &mut self.tally, trail, out)
     }
 
     /// Follows only assignments of the trail. It is called after each going back of the trail, and
@@ -173,29 +173,6 @@ impl Weights {
         if let Some(step) = self.followed.pop() {
             self.tally.turn(&self.occurrences, step.lit, Way::Leaves);
         }
-    }
-
-    // Looks at the bodies that wait, until one gives a clause.
-    fn settle(
-        &mut self,
-        alloc: Global,
-        trail: &Trail,
-        out: &mut Clause,
-    ) -> Result<Says, NoMemory>
-        requires over { greatest_body_var self.old.normal ≤ trail.now.vars }
-        requires all { self.old.followed ≡ map as_followed trail.now.steps }
-        ensures says { IfOk result (IsSaid self.old.inside self.old.normal trail.now out.new) }
-        ensures same { self.new ≡ self.old }
-    {
-        while let Some(number) = self.tally.waiting.next() {
-            let row = &self.rows[number as usize];
-            let sums = self.tally.sums(row, number);
-            if let Says::Clause = row.look(alloc, sums, trail, out)? {
-                return Ok(Says::Clause);
-            }
-            self.tally.waiting.settle(number);
-        }
-        Ok(Says::Quiet)
     }
 }
 
