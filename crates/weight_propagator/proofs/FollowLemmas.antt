@@ -1,19 +1,18 @@
 -- The followed assignments and the trail: which are the next, the last, and what they have in common.
-use Rattle.std.proofs.Common.{◌≡◌, ◌≢◌, ◌≤◌, ◌<◌, ◌+◌, ◌-◌, ℕ, zero, suc, Bool, true, false, cond, eqb}
+use Rattle.std.proofs.Common.{◌≡◌, ◌≢◌, ◌≤◌, ◌<◌, ◌+◌, ◌-◌, ℕ, suc, Bool, true, false, cond, eqb}
 use Rattle.std.proofs.Common.{List, [], ◌∷◌, ◌++◌, length, get_or, map, take, drop, set, refl, sym, ap}
-use Rattle.std.proofs.Common.{ap₂, ◌∙◌, subst, inl, inr, arith, length-append, Option, Some, None}
-use Rattle.std.specs.Prelude.{All, AllPairs, slice_get, if◌then◌else◌, ◌||◌}
-use Rattle.std.proofs.lemmas.Bool.{cases_eq, eqb-false, ne_eqb, true≢false}
-use Rattle.std.proofs.lemmas.List.{get_or-set_same, get_or-set_other, length-set, get_or-take}
-use Rattle.std.proofs.lemmas.List.{get_or_append_left, length-map, length-take, map-append, take_all}
-use Rattle.std.proofs.lemmas.List.{take_more, get_or_default}
+use Rattle.std.proofs.Common.{◌∙◌, subst, inl, inr, arith, length-append, Some, None}
+use Rattle.std.specs.Prelude.{All, slice_get, if◌then◌else◌, ◌||◌}
+use Rattle.std.proofs.lemmas.Bool.{cases_eq, ne_eqb}
+use Rattle.std.proofs.lemmas.List.{get_or-set_other, length-set, get_or-take}
+use Rattle.std.proofs.lemmas.List.{get_or_append_left, length-map, length-take, take_all}
+use Rattle.std.proofs.lemmas.List.{get_or_default}
 use Rattle.std.proofs.Math.Seq.{get_or-append_seam}
 use Rattle.std.proofs.lemmas.List.Elements.{All-map}
-use Rattle.std.proofs.lemmas.Option.{same_Some, slice_get_within, get_or_from_slice_get}
+use Rattle.std.proofs.lemmas.Option.{same_Some}
 use Rattle.std.proofs.lemmas.Option.{slice_get-get_or, slice_get_read}
 use Rattle.clause_store.specs.declared.literal.Lit.{Lit}
-use Rattle.clause_store.specs.declared.literal.Value.{Value}
-use Rattle.clause_store.specs.declared.literal.Value.TheVariants.{Yes, No, Unset}
+use Rattle.clause_store.specs.declared.literal.Value.TheVariants.{Yes, No}
 use Rattle.clause_store.specs.declared.step.Step.{Step}
 use Rattle.clause_store.specs.Clause.{variable}
 use Rattle.clause_store.specs.Trail.{Assigned, step_of, value_of, value_by}
@@ -30,7 +29,7 @@ use Rattle.weight_propagator.specs.declared.side.Side.TheVariants.{Reached, Miss
 use Rattle.weight_propagator.specs.declared.tally.Tally.{Tally}
 use Rattle.weight_propagator.specs.Rows.{RowGives, is_on, is_taken, all_sum, yes_sum, not_no_sum}
 use Rattle.weight_propagator.specs.Rows.{IsRow}
-use Rattle.weight_propagator.specs.Sums.{on_sum, AreSums, AreSettled, IsInStep, AreApart}
+use Rattle.weight_propagator.specs.Sums.{AreSums, IsInStep, AreApart}
 use Rattle.weight_propagator.proofs.CaseLemmas.{taken_reached, taken_missed}
 use Rattle.weight_propagator.proofs.SumLemmas.{gives_same}
 

@@ -1,8 +1,7 @@
 -- What is kept when one assignment more is followed, or one less.
 use Rattle.std.proofs.Common.{◌≡◌, ◌≢◌, ◌<◌, ◌++◌, ◌∷◌, [], Bool, List, Option, get_or, map, length, sym}
-use Rattle.std.proofs.Common.{ap, ◌∙◌, subst, None, refl}
+use Rattle.std.proofs.Common.{◌∙◌, None, refl}
 use Rattle.std.specs.Prelude.{All}
-use Rattle.clause_store.specs.declared.literal.Lit.{Lit}
 use Rattle.clause_store.specs.declared.step.Step.{Step}
 use Rattle.clause_store.specs.Clause.{variable, negation}
 use Rattle.clause_store.specs.Trail.{step_of}
@@ -13,7 +12,7 @@ use Rattle.weight_propagator.specs.declared.row.Row.{Row}
 use Rattle.weight_propagator.specs.declared.occurrences.Occurrence.{Occurrence}
 use Rattle.weight_propagator.specs.declared.tally.Tally.{Tally}
 use Rattle.weight_propagator.specs.declared.tally.Way.TheVariants.{Comes, Leaves}
-use Rattle.weight_propagator.specs.Sums.{HasTurned, IsInStep, AreApart, IsSizedFor}
+use Rattle.weight_propagator.specs.Sums.{HasTurned, IsInStep, IsSizedFor}
 use Rattle.weight_propagator.specs.Kept.{AreKept}
 use Rattle.weight_propagator.proofs.FollowLemmas.{next_unset, last_unset, front_apart, same_values}
 use Rattle.weight_propagator.proofs.FollowLemmas.{step_same}

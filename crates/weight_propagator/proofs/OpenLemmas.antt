@@ -1,7 +1,7 @@
 -- What is kept at the beginning, when nothing is followed and all bodies wait.
-use Rattle.std.proofs.Common.{◌≡◌, ◌≤◌, ◌<◌, ◌+◌, ◌^◌, ◌∙◌, ℕ, Bool, true, false, List, [], Option}
-use Rattle.std.proofs.Common.{None, Some, get_or, length, replicate, refl, sym, ap, subst, cond, arith}
-use Rattle.std.specs.Prelude.{All, IfSome, slice_get, if◌then◌else◌, ◌||◌}
+use Rattle.std.proofs.Common.{◌≡◌, ◌∙◌, ℕ, Bool, true, false, List, [], Option}
+use Rattle.std.proofs.Common.{None, get_or, length, replicate, refl, sym, ap, cond, arith}
+use Rattle.std.specs.Prelude.{All, if◌then◌else◌, ◌||◌}
 use Rattle.std.proofs.lemmas.Bool.{true≢false}
 use Rattle.std.proofs.lemmas.List.{get_or-replicate, length-replicate}
 use Rattle.std.proofs.lemmas.Option.{slice_get_within}

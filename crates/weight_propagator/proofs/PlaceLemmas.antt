@@ -1,24 +1,21 @@
 -- The lists that parts of an array are, and where the literals of bodies are entered.
-use Rattle.std.proofs.Common.{◌≡◌, ◌≤◌, ◌<◌, ◌+◌, ◌-◌, ℕ, zero, suc, Bool, true, false, cond}
-use Rattle.std.proofs.Common.{eqb, List, [], ◌∷◌, ◌++◌, length, get_or, take, drop, map, set, refl}
-use Rattle.std.proofs.Common.{sym, ap, ap₂, ◌∙◌, subst, inl, inr, arith, length-append, Some, None}
-use Rattle.std.proofs.Common.{replicate}
-use Rattle.std.specs.Prelude.{All, sum_by, slice_get, slice_range, if◌then◌else◌, option_map}
-use Rattle.std.proofs.lemmas.Bool.{cases_Bool, cases_eq, cases_lt, eqb-true, eqb-false, eq-eqb}
-use Rattle.std.proofs.lemmas.Bool.{ne_eqb}
+use Rattle.std.proofs.Common.{◌≡◌, ◌≤◌, ◌<◌, ◌-◌, ℕ, suc, cond}
+use Rattle.std.proofs.Common.{eqb, List, [], ◌∷◌, ◌++◌, length, get_or, take, drop, map, refl}
+use Rattle.std.proofs.Common.{ap, ap₂, ◌∙◌, subst, inl, inr, arith, length-append, Some}
+use Rattle.std.specs.Prelude.{All, slice_get, slice_range, if◌then◌else◌, option_map}
+use Rattle.std.proofs.lemmas.Bool.{cases_lt, eq-eqb}
 use Rattle.std.proofs.lemmas.List.{take-append-le, drop-append-le, length-drop, map-append}
-use Rattle.std.proofs.lemmas.List.{get_or-set_same, get_or-set_other, get_or_past, get_or-replicate}
-use Rattle.std.proofs.lemmas.List.{length-replicate, length-map, get_or_append_left, get_or_default}
-use Rattle.std.proofs.Math.Seq.{drop-append_seam, take-length, get_or-append_seam}
-use Rattle.std.proofs.lemmas.List.Sums.{sum_by-cons, sum_by_push, get_or-le-sum_by, sum_by-append}
-use Rattle.std.proofs.lemmas.Option.{slice_get-map, get_or_from_slice_get, slice_get-get_or}
-use Rattle.std.proofs.lemmas.Option.{slice_get_past}
+use Rattle.std.proofs.lemmas.List.{get_or_past}
+use Rattle.std.proofs.lemmas.List.{length-map, get_or_default}
+use Rattle.std.proofs.Math.Seq.{drop-append_seam, take-length}
+use Rattle.std.proofs.lemmas.List.Sums.{get_or-le-sum_by}
+use Rattle.std.proofs.lemmas.Option.{slice_get-map, get_or_from_slice_get}
 use Rattle.weight_propagator.specs.declared.row.Term.{Term}
 use Rattle.weight_propagator.specs.declared.row.Row.{Row}
 use Rattle.weight_propagator.specs.declared.occurrences.Occurrence.{Occurrence}
 use Rattle.weight_propagator.specs.declared.occurrences.Span.{Span}
 use Rattle.weight_propagator.specs.Places.{part_of, IsSpan}
-use Rattle.weight_propagator.specs.Sums.{row_sum, code_sum, AreOccurrencesIn, AreEntered, looked_at}
+use Rattle.weight_propagator.specs.Sums.{row_sum, code_sum, AreOccurrencesIn, looked_at}
 use Rattle.weight_propagator.specs.Sums.{AreOccurrences, one_each}
 
 -- ---- parts of an array

@@ -1,5 +1,5 @@
 -- The stack of the bodies that wait.
-use Rattle.std.proofs.Common.{◌≡◌, ◌≢◌, ◌≤◌, ◌<◌, ◌+◌, ◌-◌, ◌*◌, ℕ, Bool, true, false, List, []}
+use Rattle.std.proofs.Common.{◌≡◌, ◌≢◌, ◌≤◌, ◌<◌, ◌+◌, ◌-◌, ℕ, Bool, true, false, List, []}
 use Rattle.std.proofs.Common.{◌∷◌, ◌++◌, length, get_or, take, set, refl, sym, ap, ◌∙◌}
 use Rattle.std.proofs.Common.{subst, inl, inr, arith, length-append, Option, Some, None}
 use Rattle.std.specs.Prelude.{All, Any, IfNone, sum_by, slice_get}
@@ -51,8 +51,7 @@ module _ (waits : List Bool) (stack : List ℕ) (places : ℕ) (is : IsStack wai
   stack_with row d within off = record {
     has = λ one waiting. elim (cases_eq one row) [
       | inl same ↦
-          any_from (λ it. it ≡ one) (stack ++ row ∷ []) row
-          (
+          any_from (λ it. it ≡ one) (stack ++ row ∷ []) row (
             length stack,
             omega (arith, length-append stack (row ∷ [])),
             get_or-append_seam stack row [] row,
@@ -124,12 +123,12 @@ module _ (waits : List Bool) (stack : List ℕ) (places : ℕ) (is : IsStack wai
                 (sym same ∙ sym at ∙ ap (λ place. get_or stack place it) end
                 ∙ get_or_from_slice_get stack (length stack - 1) row it last))
             | inr before ↦ (
-                k,
-                it,
-                omega (arith, within, before, length-take (length stack - 1) stack),
-                get_or-take (length stack - 1) stack k it (omega (arith, within, before)) ∙ at,
-                same,
-              )
+              k,
+              it,
+              omega (arith, within, before, length-take (length stack - 1) stack),
+              get_or-take (length stack - 1) stack k it (omega (arith, within, before)) ∙ at,
+              same,
+            )
           ]
 
   -- where nothing stands on the stack, none waits

@@ -1,13 +1,12 @@
 -- The sums of a body after one assignment more, and which bodies it leaves as they are.
-use Rattle.std.proofs.Common.{◌≡◌, ◌≢◌, ◌≤◌, ◌<◌, ◌+◌, ◌*◌, ◌/◌, ◌^◌, ℕ, zero, suc, Bool, true, false}
-use Rattle.std.proofs.Common.{not, cond, eqb, List, [], ◌∷◌, ◌++◌, length, get_or, map, Option, Some}
+use Rattle.std.proofs.Common.{◌≡◌, ◌≢◌, ◌≤◌, ◌<◌, ◌+◌, ℕ, Bool, true, false}
+use Rattle.std.proofs.Common.{not, cond, eqb, List, [], ◌∷◌, ◌++◌, length, get_or}
 use Rattle.std.proofs.Common.{None, refl, sym, ap, ◌∙◌, subst, inl, inr, arith}
-use Rattle.std.specs.Prelude.{All, Any, sum_by, if◌then◌else◌, ◌||◌}
-use Rattle.std.proofs.lemmas.Bool.{cases_Bool, cases_eq, eqb-true, eqb-false, eq-eqb, ne_eqb}
+use Rattle.std.specs.Prelude.{All, if◌then◌else◌, ◌||◌}
+use Rattle.std.proofs.lemmas.Bool.{cases_eq, eqb-true, eqb-false, eq-eqb, ne_eqb}
 use Rattle.std.proofs.lemmas.Bool.{false≢true}
 use Rattle.std.proofs.lemmas.List.Sums.{sum_by-cons, get_or-le-sum_by}
 use Rattle.clause_store.specs.declared.literal.Lit.{Lit}
-use Rattle.clause_store.specs.declared.literal.Value.{Value}
 use Rattle.clause_store.specs.declared.literal.Value.TheVariants.{Yes, No, Unset}
 use Rattle.clause_store.specs.declared.step.Step.{Step}
 use Rattle.clause_store.specs.Clause.{variable, negation, is_negated}
@@ -22,7 +21,7 @@ use Rattle.weight_propagator.specs.declared.side.Side.{Side}
 use Rattle.weight_propagator.specs.declared.side.Side.TheVariants.{Reached, Missed}
 use Rattle.weight_propagator.specs.Gives.{if_true, unless_true, unless_false}
 use Rattle.weight_propagator.specs.Gives.GivesBy.{reached, missed, needs, refuses}
-use Rattle.weight_propagator.specs.Rows.{term_value, all_sum, yes_sum, not_no_sum, RowGives}
+use Rattle.weight_propagator.specs.Rows.{all_sum, yes_sum, not_no_sum, RowGives}
 use Rattle.weight_propagator.specs.Rows.{is_on, is_taken}
 use Rattle.weight_propagator.specs.Sums.{looked_at, code_sum, shown, on_sum, itself, one_each}
 use Rattle.weight_propagator.proofs.ValueLemmas.{other_code}

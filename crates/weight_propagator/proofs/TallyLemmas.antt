@@ -1,19 +1,12 @@
 -- Sums and waiting bodies that follow one assignment more, or one less.
-use Rattle.std.proofs.Common.{◌≡◌, ◌≢◌, ◌≤◌, ◌<◌, ◌+◌, ◌-◌, ◌^◌, ℕ, zero, suc, Bool, true, false}
-use Rattle.std.proofs.Common.{cond, eqb, List, [], ◌∷◌, ◌++◌, length, get_or, map, take, set, refl}
-use Rattle.std.proofs.Common.{sym, ap, ap₂, ◌∙◌, subst, inl, inr, arith, Option, Some, None}
-use Rattle.std.specs.Prelude.{All, AllPairs, Contains, sum_by, slice_get, if◌then◌else◌}
-use Rattle.std.proofs.lemmas.Bool.{cases_eq, eq-eqb, ne_eqb, true≢false}
-use Rattle.std.proofs.lemmas.List.{get_or-set_same, get_or-set_other, get_or_past, length-set}
-use Rattle.std.proofs.lemmas.List.{get_or_default}
-use Rattle.std.proofs.lemmas.List.Elements.{All-contains}
-use Rattle.std.proofs.lemmas.List.Sums.{sum_by_more, sum_by-take-le}
+use Rattle.std.proofs.Common.{◌≡◌, ◌<◌, ◌^◌, ℕ, suc}
+use Rattle.std.proofs.Common.{List, [], ◌∷◌, ◌++◌, get_or}
+use Rattle.std.proofs.Common.{sym, ◌∙◌, subst, arith, Some, None}
+use Rattle.std.specs.Prelude.{All, slice_get}
 use Rattle.std.proofs.lemmas.Option.{slice_get_within, get_or_from_slice_get}
-use Rattle.clause_store.specs.declared.literal.Lit.{Lit}
 use Rattle.clause_store.specs.declared.step.Step.{Step}
 use Rattle.clause_store.specs.Clause.{variable, negation}
-use Rattle.clause_store.specs.Trail.{step_of, value_of, value_by}
-use Rattle.clause_store.specs.Standing.{as_followed, Followed}
+use Rattle.clause_store.specs.Trail.{step_of, value_of}
 use Rattle.normal_program.specs.Clauses.{positive}
 use Rattle.weight_propagator.specs.declared.row.Term.{Term}
 use Rattle.weight_propagator.specs.declared.row.Row.{Row}
@@ -21,12 +14,11 @@ use Rattle.weight_propagator.specs.declared.side.Side.{Side}
 use Rattle.weight_propagator.specs.declared.side.Side.TheVariants.{Reached, Missed}
 use Rattle.weight_propagator.specs.declared.occurrences.Occurrence.{Occurrence}
 use Rattle.weight_propagator.specs.declared.tally.Tally.{Tally}
-use Rattle.weight_propagator.specs.declared.tally.Way.{Way}
 use Rattle.weight_propagator.specs.declared.tally.Way.TheVariants.{Comes, Leaves}
-use Rattle.weight_propagator.specs.Rows.{all_sum, IsSized, RowGives}
+use Rattle.weight_propagator.specs.Rows.{all_sum, IsSized}
 use Rattle.weight_propagator.specs.Sums.{row_sum, code_sum, looked_at, AreOccurrences, shown, on_sum}
-use Rattle.weight_propagator.specs.Sums.{IsMoved, itself, one_each, AreMoved, AreMarked, HasTurned}
-use Rattle.weight_propagator.specs.Sums.{AreSums, AreSettled, IsInStep, IsSizedFor}
+use Rattle.weight_propagator.specs.Sums.{itself, one_each, AreMoved, HasTurned}
+use Rattle.weight_propagator.specs.Sums.{AreSums, IsInStep}
 use Rattle.weight_propagator.proofs.PlaceLemmas.{occurrences_at}
 use Rattle.weight_propagator.proofs.SumLemmas.{on_sum_more, on_sum_most, looked_sum, untouched}
 use Rattle.weight_propagator.proofs.SumLemmas.{gives_same}

@@ -1,7 +1,7 @@
 -- How the sums of kept bodies follow the assignments. No public clause cites this module.
 use Rattle.std.specs.Prelude.{◌≡◌, ◌<◌, ◌+◌, ◌-◌, ◌^◌, ◌==◌, ℕ, Bool, true, false}
 use Rattle.std.specs.Prelude.{if◌then◌else◌, List, [], ◌∷◌, length, map, get_or, slice_get}
-use Rattle.std.specs.Prelude.{Option, Some, None, All, AllPairs, Any, sum_by, ◌≢◌}
+use Rattle.std.specs.Prelude.{Some, None, AllPairs, sum_by, ◌≢◌}
 use Rattle.clause_store.specs.declared.literal.Lit.{Lit}
 use Rattle.clause_store.specs.declared.step.Step.{Step}
 use Rattle.clause_store.specs.Clause.{variable, negation}

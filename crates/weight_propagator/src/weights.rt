@@ -157,7 +157,8 @@ impl Weights {
     fn follow_step(&mut self, step: Step) -> Result<(), NoMemory>
         requires { All (λ one. variable one.lit ≢ variable step.lit) self.old.followed }
         ensures ok { OnOk result (self.new ≡ record self.old {
-            followed = self.old.followed ++ as_followed step ∷ [] }) }
+          followed = self.old.followed ++ as_followed step ∷ [];
+        }) }
         ensures err { OnErr result (self.new ≡ self.old) }
     {
         self.followed.push(step)?;
@@ -168,7 +169,8 @@ impl Weights {
     // Follows the last assignment no more.
     fn forget(&mut self)
         ensures { self.new ≡ record self.old {
-            followed = take (length self.old.followed - 1) self.old.followed } }
+          followed = take (length self.old.followed - 1) self.old.followed;
+        } }
     {
         if let Some(step) = self.followed.pop() {
             self.tally.turn(&self.occurrences, step.lit, Way::Leaves);

@@ -1,4 +1,4 @@
-use Rattle.std.proofs.Common.{◌≡◌, ◌<◌, ◌∙◌, false, get_or, length, sym, subst, arith}
+use Rattle.std.proofs.Common.{◌<◌, ◌∙◌, length, sym, subst, arith}
 use Rattle.weight_propagator.specs.Waits.{Waited}
 use Rattle.weight_propagator.proofs.StackLemmas.{stack_room, stack_with}
 use Rattle.weight_propagator.proofs.waiting.Waiting.mark.Goals as goal

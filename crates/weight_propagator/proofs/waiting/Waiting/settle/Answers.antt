@@ -1,4 +1,4 @@
-use Rattle.std.proofs.Common.{◌≡◌, ◌∙◌, ◌-◌, Some, ap, length, slice_get, sym, subst, take}
+use Rattle.std.proofs.Common.{◌∙◌, ◌-◌, ap, take}
 use Rattle.weight_propagator.specs.Waits.{Waited}
 use Rattle.weight_propagator.proofs.StackLemmas.{stack_without}
 use Rattle.weight_propagator.proofs.waiting.Waiting.settle.Goals as goal

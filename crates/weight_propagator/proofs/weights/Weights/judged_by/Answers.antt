@@ -1,8 +1,7 @@
-use Rattle.std.proofs.Common.{◌≡◌, ◌∙◌, List, refl, sym, ap, subst, arith, length}
+use Rattle.std.proofs.Common.{◌∙◌, List, sym, subst, arith}
 use Rattle.std.specs.Prelude.{All}
 use Rattle.normal_program.specs.Normal.{greatest_body_var}
 use Rattle.weight_propagator.specs.declared.row.Row.{Row}
-use Rattle.weight_propagator.specs.declared.occurrences.Occurrence.{Occurrence}
 use Rattle.weight_propagator.specs.Rows.{IsRow}
 use Rattle.weight_propagator.specs.Sums.{AreOccurrences}
 use Rattle.weight_propagator.proofs.OpenLemmas.{open_kept}
