@@ -1,5 +1,6 @@
 -- What is kept when one assignment more is followed, or one less.
-use Rattle.std.proofs.Common.{◌≡◌, ◌≢◌, ◌<◌, ◌++◌, ◌∷◌, [], Bool, List, Option, get_or, map, length, sym}
+use Rattle.std.proofs.Common.{◌≡◌, ◌≢◌, ◌<◌, ◌++◌, ◌∷◌, [], Bool, List, Option, get_or, map, length}
+use Rattle.std.proofs.Common.{sym}
 use Rattle.std.proofs.Common.{◌∙◌, None, refl}
 use Rattle.std.specs.Prelude.{All}
 use Rattle.clause_store.specs.declared.step.Step.{Step}

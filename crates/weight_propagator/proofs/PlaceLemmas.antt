@@ -86,7 +86,8 @@ pub places_within : (rows : List Row) (lists : List (List Occurrence)) (count : 
     → AreOccurrences rows lists → count ≡ length rows
     → All (λ list. All (λ (one : Occurrence). one.row < count) list) lists
 places_within rows lists count are same k d low j e within =
-    let here : All (λ (one : Occurrence). one.row < length (map looked_at rows)) (get_or lists k d) =
+    let here : All (λ (one : Occurrence). one.row < length (map looked_at rows))
+    (get_or lists k d) =
     subst (All (λ (one : Occurrence). one.row < length (map looked_at rows)))
     (get_or_default lists k [] d low) (occurrence_within (map looked_at rows) lists are k) in
     omega (arith, here j e within, length-map rows looked_at, same)

@@ -16,7 +16,8 @@ use Rattle.weight_propagator.specs.declared.occurrences.Occurrence.{Occurrence}
 use Rattle.weight_propagator.specs.declared.tally.Tally.{Tally}
 use Rattle.weight_propagator.specs.declared.tally.Way.TheVariants.{Comes, Leaves}
 use Rattle.weight_propagator.specs.Rows.{all_sum, IsSized}
-use Rattle.weight_propagator.specs.Sums.{row_sum, code_sum, looked_at, AreOccurrences, shown, on_sum}
+use Rattle.weight_propagator.specs.Sums.{row_sum, code_sum, looked_at, AreOccurrences, shown}
+use Rattle.weight_propagator.specs.Sums.{on_sum}
 use Rattle.weight_propagator.specs.Sums.{itself, one_each, AreMoved, HasTurned}
 use Rattle.weight_propagator.specs.Sums.{AreSums, IsInStep}
 use Rattle.weight_propagator.proofs.PlaceLemmas.{occurrences_at}

@@ -18,7 +18,8 @@ use Rattle.weight_propagator.specs.Rows.{RowGives, taken_sum}
 
 -- ---- where literals stand
 
--- the literals on which a kept body depends: its own, and those of its variable, which weigh nothing
+-- the literals on which a kept body depends: its own, and those of its variable, which weigh
+-- nothing
 abbrev pub looked_at : Row → List Term
 looked_at row =
     record { lit = positive row.var.0; weight = 0 }

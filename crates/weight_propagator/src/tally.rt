@@ -1,6 +1,7 @@
 // The sums of all bodies, kept while assignments come and go. An assignment costs what its literal
 // occurs, and so does taking it back.
-ghost use Rattle.std.specs.Prelude.{◌≡◌, ◌<◌, ◌≤◌, ◌-◌, All, length, get_or, replicate, [], true, IfOk};
+ghost use Rattle.std.specs.Prelude.{◌≡◌, ◌<◌, ◌≤◌, ◌-◌, All, length, get_or, replicate, []};
+ghost use Rattle.std.specs.Prelude.{true, IfOk};
 ghost use Rattle.clause_store.specs.Clause.{negation};
 ghost use Rattle.weight_propagator.specs.Sums.{AreMoved, AreMarked, IsMoved, HasTurned};
 ghost use Rattle.weight_propagator.specs.Sums.{IsSizedFor};

@@ -6,7 +6,8 @@ use Rattle.weight_propagator.proofs.waiting.Waiting.settle.Goals as goal
 pub invariant_of-self : goal.invariant_of-self
 invariant_of-self c =
     rw (
-      c.pop.ensures.rest ∙ ap (λ n. take (n - 1) c.self.inside.stack.items) c.self.inside.stack.ok.0,
+      c.pop.ensures.rest
+          ∙ ap (λ n. take (n - 1) c.self.inside.stack.items) c.self.inside.stack.ok.0,
       c.pop.ensures.capacity,
     )
     (stack_without c.self.inside.waits.items c.self.inside.stack.items _ c.self.invariant c.args.row
