@@ -14,10 +14,11 @@ use Rattle.weight_propagator.specs.declared.side.Side.{Side}
 use Rattle.weight_propagator.specs.declared.side.Side.TheVariants.{Reached, Missed}
 use Rattle.weight_propagator.specs.declared.occurrences.Occurrence.{Occurrence}
 use Rattle.weight_propagator.specs.declared.tally.Tally.{Tally}
+use Rattle.weight_propagator.specs.declared.tally.Way.{Way}
 use Rattle.weight_propagator.specs.declared.tally.Way.TheVariants.{Comes, Leaves}
 use Rattle.weight_propagator.specs.Rows.{all_sum, IsSized}
 use Rattle.weight_propagator.specs.Sums.{row_sum, code_sum, looked_at, AreOccurrences, shown}
-use Rattle.weight_propagator.specs.Sums.{on_sum}
+use Rattle.weight_propagator.specs.Sums.{on_sum, AreSettled}
 use Rattle.weight_propagator.specs.Sums.{itself, one_each, AreMoved, HasTurned}
 use Rattle.weight_propagator.specs.Sums.{AreSums, IsInStep}
 use Rattle.weight_propagator.proofs.PlaceLemmas.{occurrences_at}
@@ -83,6 +84,26 @@ module _ (rows : List Row) (places : List (List Occurrence)) (are : AreOccurrenc
         (sym (occurrences_at rows places are at row here step.lit.0 one_each) ∙ no_yes)
         (sym (occurrences_at rows places are at row here (negation step.lit).0 one_each) ∙ no_no)
 
+    -- a body that doesn't wait gave nothing, and its values stay
+    settled_turned : (old new : Tally) (from to : List Step) (way : Way)
+        → ((at : ℕ) (row : Row) → slice_get rows at ≡ Some row
+        → row_sum one_each at (get_or places step.lit.0 []) ≡ 0
+        → row_sum one_each at (get_or places (negation step.lit).0 []) ≡ 0
+        → All (λ (term : Term). value_of to term.lit ≡ value_of from term.lit) (looked_at row))
+        → AreSettled from rows old.waiting.waits
+        → HasTurned way (get_or places step.lit.0 []) (get_or places (negation step.lit).0 [])
+        old new → AreSettled to rows new.waiting.waits
+    settled_turned old new from to way stay was turned = record {
+      same = turned.same ∙ was.same;
+      each = λ at row here off gives.
+          let (off_before, no_yes, no_no) = turned.rest at off in
+          let values = stay at row here no_yes no_no in
+          was.each at row here off_before
+          (gives_same to from row
+          (values 0 (record { lit = positive row.var.0; weight = 0 }) (omega arith))
+          (λ k d within. values (suc (suc k)) d (omega (arith, within))) gives);
+    }
+
     module _ (old new : Tally) where
       pub step_comes : IsInStep rows front old
           → HasTurned Comes (get_or places step.lit.0 []) (get_or places (negation step.lit).0 [])
@@ -91,16 +112,8 @@ module _ (rows : List Row) (places : List (List Occurrence)) (are : AreOccurrenc
         reached =
             sums_come Reached old.reached.items new.reached.items was.reached turned.reached;
         missed = sums_come Missed old.missed.items new.missed.items was.missed turned.missed;
-        settled = record {
-          same = turned.same ∙ was.settled.same;
-          each = λ at row here off gives.
-              let (off_before, no_yes, no_no) = turned.rest at off in
-              let stay = values_stay at row here no_yes no_no in
-              was.settled.each at row here off_before
-              (gives_same (front ++ step ∷ []) front row
-              (stay 0 (record { lit = positive row.var.0; weight = 0 }) (omega arith))
-              (λ k d within. stay (suc (suc k)) d (omega (arith, within))) gives);
-        };
+        settled =
+            settled_turned old new front (front ++ step ∷ []) Comes values_stay was.settled turned;
       }
 
       pub step_leaves : IsInStep rows (front ++ step ∷ []) old
@@ -110,14 +123,8 @@ module _ (rows : List Row) (places : List (List Occurrence)) (are : AreOccurrenc
         reached =
             sums_leave Reached old.reached.items new.reached.items was.reached turned.reached;
         missed = sums_leave Missed old.missed.items new.missed.items was.missed turned.missed;
-        settled = record {
-          same = turned.same ∙ was.settled.same;
-          each = λ at row here off gives.
-              let (off_before, no_yes, no_no) = turned.rest at off in
-              let stay = values_stay at row here no_yes no_no in
-              was.settled.each at row here off_before
-              (gives_same front (front ++ step ∷ []) row
-              (sym (stay 0 (record { lit = positive row.var.0; weight = 0 }) (omega arith)))
-              (λ k d within. sym (stay (suc (suc k)) d (omega (arith, within)))) gives);
-        };
+        settled =
+            settled_turned old new (front ++ step ∷ []) front Leaves
+            (λ at row here no_yes no_no k d within.
+            sym (values_stay at row here no_yes no_no k d within)) was.settled turned;
       }

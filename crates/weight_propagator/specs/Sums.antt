@@ -79,8 +79,8 @@ one_each weight = 1
 pub record AreMoved (way : Way) (entries : List Occurrence) (old new : List ℕ) : Type 0 where
   pub same : length new ≡ length old
   pub each :
-      (row : ℕ) → row < length old
-      → IsMoved way (row_sum itself row entries) (get_or old row 0) (get_or new row 0)
+      (at : ℕ) → at < length old
+      → IsMoved way (row_sum itself at entries) (get_or old at 0) (get_or new at 0)
 
 -- the bodies of occurrences wait, and those that waited
 pub record AreMarked (entries : List Occurrence) (old new : List Bool) : Type 0 where

@@ -45,7 +45,8 @@ invariant_of-self c =
     kept_after c.self.inside.inside.value c.self.inside.made_of.value c.self.inside.rows.items
     c.self.inside.occurrences c.self.inside.tally c.self.inside.followed.items
     c.args.trail.now.steps c.self.invariant
-    (ap (λ (it : Weighed). it.followed) c.self.view_is ∙ c.in_ok-follow.ensures.all) c.settle.new.tally
+    (ap (λ (it : Weighed). it.followed) c.self.view_is ∙ c.in_ok-follow.ensures.all)
+    c.settle.new.tally
     (subst (λ (rows : List Row). IsInStep rows c.args.trail.now.steps c.settle.new.tally)
     c.deref.ensures.value c.settle.ensures.in_step)
 
