@@ -1,6 +1,7 @@
 -- What a try at a rule and a round over the rules do, and what the rounds come to.
 use Rattle.std.proofs.Common.{◌≡◌, ◌≤◌, ◌<◌, ◌+◌, ℕ, Bool, true, false, List, [], ◌∷◌, ◌++◌}
-use Rattle.std.proofs.Common.{length, set, get_or, Some, slice_get, arith, refl, sym, ap, ◌∙◌, subst}
+use Rattle.std.proofs.Common.{length, set, get_or, Some, slice_get, arith, refl, sym, ap, ◌∙◌}
+use Rattle.std.proofs.Common.{subst}
 use Rattle.std.proofs.Common.{if◌then◌else◌, ⊎_elim, length-set, Option, None}
 use Rattle.std.specs.Prelude.{All, IsSomeAnd}
 use Rattle.std.proofs.lemmas.Bool.{cases_eq, cases_lt, both_ways}
@@ -19,6 +20,8 @@ use Rattle.item_list.proofs.ListLemmas.{All-left, All-right, sum_by-le_each}
 use Rattle.unfounded_sets.specs.Founding.{counts_with, founding_weight, IsReached}
 use Rattle.unfounded_sets.specs.Founding.{Founds}
 use Rattle.unfounded_sets.specs.Rounds.{missing, AddsHeads, Tries, IsBelow, IsSettled, IsEmpty}
+use Rattle.unfounded_sets.specs.Rounds.{IsCovered, IsRuleIn}
+use Rattle.normal_program.specs.Loop.{IsAtomOf}
 use Rattle.unfounded_sets.proofs.ValueLemmas.{added_is_part, missing-added}
 
 -- the first item of a list of one
@@ -252,6 +255,32 @@ pub below_more : (normal : Normal) (steps : List Step) (before after : List Bool
 below_more normal steps before after grew below tries = record {
   places = tries.places ∙ below.places;
   within = λ set closed. tries.within set closed (below.within set closed);
+}
+
+-- one rule leaves founded atoms alone
+pub below_by : (normal : Normal) (steps : List Step) (number : ℕ) (rule : NormalRule)
+    (before after : List Bool) (grew : Bool) → number < length normal.rules
+    → rule ≡ get_or normal.rules number rule → IsBelow normal steps before
+    → Tries normal steps (rule ∷ []) before after grew → IsBelow normal steps after
+below_by normal steps number rule before after grew within at below tries = record {
+  places = tries.places ∙ below.places;
+  within = λ set closed.
+      tries.within set
+      (All-one (Founds normal steps set) rule
+      (subst (Founds normal steps set) (sym at) (closed number rule within)))
+      (below.within set closed);
+}
+
+-- a rule of the normal form names atoms and a body
+pub rule_in : (normal : Normal) (vars number : ℕ) (rule : NormalRule) → IsCovered normal vars
+    → number < length normal.rules → rule ≡ get_or normal.rules number rule → IsRuleIn normal rule
+rule_in normal vars number rule covered within at = record {
+  heads =
+      subst (λ (one : NormalRule). All (IsAtomOf normal) one.heads) (sym at)
+      (covered.range.heads number rule within);
+  number =
+      subst (λ (one : NormalRule). one.body < length normal.bodies) (sym at)
+      (covered.range.numbers number rule within);
 }
 
 -- a round that founds nothing is the last

@@ -40,7 +40,7 @@ use Rattle.normal_program.proofs.lemmas.Base.EntailedLemmas.{numbers_within}
 use Rattle.unfounded_sets.specs.Founding.{is_false, IsReached, Founds, IsClosed}
 use Rattle.unfounded_sets.specs.Founding.{founding_weight, counts_with}
 use Rattle.unfounded_sets.specs.Found.{AreFounded, IsGiven, IsLoopWritten}
-use Rattle.unfounded_sets.specs.Rounds.{IsCovered, IsSettled, IsOutside, HasValued}
+use Rattle.unfounded_sets.specs.Rounds.{IsCovered, IsSettled, IsOutside, HasValued, IsBelow}
 use Rattle.unfounded_sets.specs.Wanted.{IsOpen, HasOpen, IsOpenPart, IsLoopPart, BlocksIn}
 use Rattle.unfounded_sets.specs.Wanted.{IsAnswered, Wants, AreWritten, weight_left, weight_possible}
 use Rattle.unfounded_sets.specs.Wanted.{is_over, is_wanted}
@@ -368,7 +368,8 @@ module _ (normal : Normal) (trail : Assigned) (part before wanted : List Bool) (
                 unset = unset;
                 others =
                     All-push (λ other. other ≢ denial → IsFalse trail.steps other) lits denial
-                    (λ k d within other. up_to_last.falses k d within) (λ other. absurd (other refl));
+                    (λ k d within other. up_to_last.falses k d within)
+                    (λ other. absurd (other refl));
               },
             );
         once =
@@ -410,9 +411,9 @@ module _ (normal : Normal) (trail : Assigned) (part before wanted : List Bool) (
 -- ---- what is found
 
 pub all_founded : (normal : Normal) (steps : List Step) (founded : List Bool)
-    → IsSettled normal steps founded → HasOpen normal steps founded → AreFounded normal steps
-all_founded normal steps founded settled none atom is_atom possible set closed =
-    settled.below.within set closed atom (none atom is_atom possible)
+    → IsBelow normal steps founded → HasOpen normal steps founded → AreFounded normal steps
+all_founded normal steps founded below none atom is_atom possible set closed =
+    below.within set closed atom (none atom is_atom possible)
 
 pub given_loop : (normal : Normal) (trail : Assigned) (founded : List Bool) (atom : ℕ)
     (clause : List Lit) → IsSettled normal trail.steps founded

@@ -33,11 +33,13 @@ false_if steps lit is = no-true (value_of steps lit) is
 pub false_is : (steps : List Step) (lit : Lit) → IsFalse steps lit → is_false steps lit ≡ true
 false_is steps lit is = ap is_no is
 
-pub not_false_if : (steps : List Step) (lit : Lit) → is_false steps lit ≡ false → ¬ IsFalse steps lit
+pub not_false_if : (steps : List Step) (lit : Lit) → is_false steps lit ≡ false
+    → ¬ IsFalse steps lit
 not_false_if steps lit is false_there =
     both_ways (is_false steps lit) is (false_is steps lit false_there)
 
-pub not_false_is : (steps : List Step) (lit : Lit) → ¬ IsFalse steps lit → is_false steps lit ≡ false
+pub not_false_is : (steps : List Step) (lit : Lit) → ¬ IsFalse steps lit
+    → is_false steps lit ≡ false
 not_false_is steps lit not =
     ⊎_elim (λ is. absurd (not (false_if steps lit is))) (λ out. out)
     (cases_Bool (is_false steps lit))

@@ -21,7 +21,8 @@ use Rattle.normal_program.specs.Normal.{body_var}
 use Rattle.normal_program.specs.Clauses.{positive, literal_of}
 use Rattle.item_list.proofs.ListLemmas.{sum_by-le_each}
 use Rattle.unfounded_sets.specs.Founding.{is_false}
-use Rattle.unfounded_sets.specs.Wanted.{is_over, is_wanted, weight_off, weight_possible, weight_left}
+use Rattle.unfounded_sets.specs.Wanted.{is_over, is_wanted, weight_off, weight_possible}
+use Rattle.unfounded_sets.specs.Wanted.{weight_left}
 use Rattle.unfounded_sets.specs.Wanted.{BlocksIn, IsAnswered, Wants}
 use Rattle.unfounded_sets.specs.Wanted.{MarksFalse, PutsFalse, AreWritten}
 use Rattle.unfounded_sets.proofs.ValueLemmas.{false_if, same_false}
@@ -59,8 +60,9 @@ module _ (steps : List Step) (part : List Bool) where
       (λ k d within. let it = get_or parts k d in
       either-less (is_wanted steps more it.lit) (is_over part it.lit) (is_wanted steps less it.lit)
       (is_over part it.lit) it.weight
-      (λ wants. let both = and-true (is_false steps (literal_of it.lit)) (has less it.lit.atom) wants
-      in both-true (is_false steps (literal_of it.lit)) (has more it.lit.atom) both.0
+      (λ wants. let both =
+      and-true (is_false steps (literal_of it.lit)) (has less it.lit.atom) wants in
+      both-true (is_false steps (literal_of it.lit)) (has more it.lit.atom) both.0
       (is it.lit.atom both.1)) (λ over. over))
 
   -- what is left is no more than what isn't over the part

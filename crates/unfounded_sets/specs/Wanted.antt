@@ -15,6 +15,7 @@ use Rattle.normal_program.specs.Normal.{body_var}
 use Rattle.normal_program.specs.Clauses.{positive, literal_of}
 use Rattle.normal_program.specs.Loop.{IsAtomOf}
 use Rattle.unfounded_sets.specs.Founding.{is_false}
+use Rattle.unfounded_sets.specs.Rounds.{IsSettled}
 
 -- whether a literal is a positive one over the part
 abbrev pub is_over : List Bool → AtomLit → Bool
@@ -71,6 +72,12 @@ pub record IsOpen (normal : Normal) (steps : List Step) (founded : List Bool) (a
 abbrev pub HasOpen : Normal → List Step → List Bool → Type 0
 HasOpen normal steps founded =
     (atom : ℕ) → IsAtomOf normal atom → ¬ IsFalse steps (positive atom) → IsIn founded atom
+
+-- founding is at its end, and this atom is left over
+pub record IsLeft (normal : Normal) (steps : List Step) (founded : List Bool) (atom : ℕ) : Type 0
+  where
+    pub settled : IsSettled normal steps founded
+    pub left : IsOpen normal steps founded atom
 
 -- the part has just the atoms that aren't false and aren't in the set
 pub record IsOpenPart (normal : Normal) (steps : List Step) (founded part : List Bool) : Type 0

@@ -3,6 +3,7 @@
 #![tactic(auto)]
 
 mod founding;
+mod hints;
 mod loops;
 mod tables;
 mod unfounded;

@@ -1,13 +1,13 @@
 // The loop clause of an unfounded set. The false literals that it wants are marked by their
 // variables and then written in order, so that none is written twice.
 ghost use Rattle.std.specs.Prelude.{◌≡◌, ◌≤◌, ◌<◌, ◌+◌, ◌↔◌, [], ◌∷◌, All, Any, IsTrue, length};
-ghost use Rattle.std.specs.Prelude.{IfOk, MatchOption};
+ghost use Rattle.std.specs.Prelude.{IfOk};
 ghost use Rattle.ground_program.specs.Meaning.{IsIn};
 ghost use Rattle.normal_program.specs.Normal.{greatest_body_var};
 ghost use Rattle.unfounded_sets.specs.Rounds.{IsCovered, HasAtoms, IsRuleIn};
 ghost use Rattle.unfounded_sets.specs.Wanted.{IsOpen, IsOpenPart, BlocksIn, weight_off};
 ghost use Rattle.unfounded_sets.specs.Wanted.{Wants, MarksFalse, AreWritten, PutsFalse};
-ghost use Rattle.unfounded_sets.specs.Wanted.{IsLoopPart, HasOpen};
+ghost use Rattle.unfounded_sets.specs.Wanted.{IsLoopPart};
 ghost use Rattle.unfounded_sets.specs.Found.{IsLoopWritten};
 
 use crate::values::{false_literal, is_false_atom, is_false_body, is_false_part, is_over, outside};
@@ -16,18 +16,6 @@ use ground_program::{Set, has_atom};
 use item_list::NoMemory;
 use normal_program::{BodyOf, Normal, NormalRule};
 use std::alloc::Global;
-
-/// An atom that isn't false and isn't founded, a true one where there is one.
-pub fn first_open(normal: &Normal, trail: &Trail, founded: &Set) -> Option<u32>
-    requires { IsCovered normal.now trail.now.vars }
-    ensures { MatchOption result (HasOpen normal.now trail.now.steps founded.now)
-        (IsOpen normal.now trail.now.steps founded.now) }
-{
-    match outside(normal, trail, founded, Value::Yes) {
-        Some(atom) => Some(atom),
-        None => outside(normal, trail, founded, Value::Unset),
-    }
-}
 
 /// Makes the part that of the atoms that aren't false and aren't founded.
 pub fn mark_open(normal: &Normal, trail: &Trail, founded: &Set, part: &mut Set)

@@ -1,11 +1,12 @@
-// This body founds anew at each call, by rounds over the rules.
+// This body founds anew at each call.
 ghost use Rattle.std.specs.Prelude.{◌≡◌, ◌≤◌, IfOk};
 ghost use Rattle.normal_program.specs.Limit.{IsNormal};
 ghost use Rattle.normal_program.specs.Normal.{greatest_body_var};
 ghost use Rattle.unfounded_sets.specs.Found.{IsAnswer};
 
-use crate::founding::found_all;
-use crate::loops::{first_open, mark_open, write_loop};
+use crate::founding::unfounded_atom;
+use crate::hints::Hints;
+use crate::loops::{mark_open, write_loop};
 use crate::tables::{clear, empty_set};
 use clause_store::{Clause, Trail};
 use ground_program::Set;
@@ -32,6 +33,7 @@ pub struct Unfounded {
     founded: Set,
     part: Set,
     wanted: Set,
+    hints: Hints,
 }
 
 impl Model for Unfounded {
@@ -57,11 +59,13 @@ impl Unfounded {
         let founded = empty_set(alloc, atoms)?;
         let part = empty_set(alloc, atoms)?;
         let wanted = empty_set(alloc, variables)?;
+        let hints = Hints::open(alloc, normal)?;
         Ok(Unfounded {
             made_of: Snapshot::of(normal),
             founded,
             part,
             wanted,
+            hints,
         })
     }
 
@@ -82,8 +86,7 @@ impl Unfounded {
         ensures same { self.new ≡ self.old }
     {
         clear(&mut self.founded);
-        found_all(normal, trail, &mut self.founded);
-        match first_open(normal, trail, &self.founded) {
+        match unfounded_atom(normal, trail, &mut self.founded, &mut self.hints) {
             None => Ok(Found::Nothing),
             Some(atom) => {
                 mark_open(normal, trail, &self.founded, &mut self.part);

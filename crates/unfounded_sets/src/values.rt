@@ -6,7 +6,7 @@ ghost use Rattle.normal_program.specs.Normal.{body_var};
 ghost use Rattle.normal_program.specs.Loop.{IsAtomOf};
 ghost use Rattle.unfounded_sets.specs.Founding.{is_no, is_false, counts_with};
 ghost use Rattle.unfounded_sets.specs.Rounds.{IsCovered, IsRuleIn, HasValued, IsOutside};
-ghost use Rattle.unfounded_sets.specs.Wanted.{is_over, IsFalseOf, HasNoFalse};
+ghost use Rattle.unfounded_sets.specs.Wanted.{is_over, IsFalseOf, HasNoFalse, IsOpen, HasOpen};
 
 use clause_store::{Lit, Trail, Value, Var};
 use ground_program::{AtomLit, Set, has_atom};
@@ -113,4 +113,16 @@ pub fn outside(normal: &Normal, trail: &Trail, founded: &Set, value: Value) -> O
         }
     }
     None
+}
+
+/// An atom that isn't false and isn't founded, a true one where there is one.
+pub fn first_open(normal: &Normal, trail: &Trail, founded: &Set) -> Option<u32>
+    requires { IsCovered normal.now trail.now.vars }
+    ensures { MatchOption result (HasOpen normal.now trail.now.steps founded.now)
+        (IsOpen normal.now trail.now.steps founded.now) }
+{
+    match outside(normal, trail, founded, Value::Yes) {
+        Some(atom) => Some(atom),
+        None => outside(normal, trail, founded, Value::Unset),
+    }
 }

@@ -1,5 +1,6 @@
-use Rattle.std.proofs.Common.{◌≡◌, ◌≤◌, false, rules, sym, subst}
-use Rattle.std.specs.Prelude.{IsSomeAnd}
+use Rattle.std.proofs.Common.{◌≡◌, ◌≤◌, ◌-◌, true, false, eqb, rules, sym, ap, subst, ◌∙◌, arith}
+use Rattle.std.specs.Prelude.{IsSomeAnd, slice_get}
+use Rattle.std.proofs.lemmas.Bool.{eqb-true, eq-eqb}
 use Rattle.normal_program.specs.declared.normal.BodyOf.{BodyOf}
 use Rattle.normal_program.specs.Normal.{body_var}
 use Rattle.normal_program.specs.Clauses.{positive}
@@ -13,12 +14,15 @@ returns-then-not-is_false_body c =
     let lit = positive (body_var c.args.normal.now c.args.rule.now.body) in
     let out : is_false steps lit ≡ false = search rules in
     let here = c.get-body.ensures in
-    let P = λ (body : BodyOf). body.bound
-    ≤ founding_weight steps c.args.founded.now body.parts in
-    let known = rw c.as_slice.ensures at c.reaches.ensures in (
-      λ yes. record {
+    let P = λ (body : BodyOf). body.bound ≤ founding_weight steps c.args.founded.now body.parts in
+    let lacking = rw c.as_slice.ensures at c.lacks.ensures in (
+      λ none. record {
         possible = not_false_if steps lit out;
-        enough = subst (λ o. IsSomeAnd o P) (sym here) (known.0 yes);
+        enough =
+            subst (λ o. IsSomeAnd o P) (sym here)
+            (omega (arith, lacking, eqb-true c.lacks.result 0 none));
       },
-      λ reached. known.1 (subst (λ o. IsSomeAnd o P) here reached.enough),
+      λ reached.
+          let enough = subst (λ o. IsSomeAnd o P) here reached.enough in
+          eq-eqb c.lacks.result 0 (omega (arith, lacking, enough)),
     )

@@ -1,12 +1,8 @@
-use Rattle.unfounded_sets.proofs.LoopLemmas.{covers, loop_part}
+use Rattle.unfounded_sets.proofs.LoopLemmas.{covers, loop_part, given_loop}
 use Rattle.unfounded_sets.proofs.unfounded.Unfounded.find.Goals as goal
 
-pub found_all-requires-clause-covered : goal.found_all-requires-clause-covered
-found_all-requires-clause-covered c =
-    covers c.args.normal.now c.args.trail.now.vars c.requires.normal c.requires.over
-
-pub first_open-requires : goal.first_open-requires
-first_open-requires c =
+pub unfounded_atom-requires-clause-covered : goal.unfounded_atom-requires-clause-covered
+unfounded_atom-requires-clause-covered c =
     covers c.args.normal.now c.args.trail.now.vars c.requires.normal c.requires.over
 
 pub mark_open-requires-clause-covered : goal.mark_open-requires-clause-covered
@@ -19,7 +15,7 @@ write_loop-requires-clause-covered c =
 
 pub write_loop-requires-clause-part : goal.write_loop-requires-clause-part
 write_loop-requires-clause-part c =
-    loop_part c.args.normal.now c.args.trail.now.steps c.found_all.new.founded c.mark_open.new.part
-    c.mark_open.ensures c.in-Some.atom c.args.trail.now.vars
+    loop_part c.args.normal.now c.args.trail.now.steps c.unfounded_atom.new.founded
+    c.mark_open.new.part c.mark_open.ensures c.in-Some.atom c.args.trail.now.vars
     (covers c.args.normal.now c.args.trail.now.vars c.requires.normal c.requires.over)
-    c.found_all.ensures.closed c.in-Some.ensures
+    c.in-Some.ensures.answer.settled.closed c.in-Some.ensures.answer.left
