@@ -1,0 +1,4 @@
+pub mod TotalLemmas
+pub mod QuietLemmas
+pub mod PartLemmas
+pub mod AnswerLemmas
