@@ -1,11 +1,11 @@
 -- What the answers of the engine say of the set.
-use Rattle.std.proofs.Common.{◌≡◌, ◌≢◌, ◌≤◌, ◌<◌, ◌+◌, ℕ, Bool, true, false, List, [], ◌∷◌, ◌++◌}
-use Rattle.std.proofs.Common.{length, map, get_or, Some, slice_get, refl, sym, ap, ◌∙◌, subst}
+use Rattle.std.proofs.Common.{◌≡◌, ◌≢◌, ◌+◌, Bool, false, List, [], ◌++◌}
+use Rattle.std.proofs.Common.{length, map, get_or, Some, sym, ap, ◌∙◌, subst}
 use Rattle.std.proofs.Common.{inl, inr, arith, length-append}
-use Rattle.std.specs.Prelude.{All, Contains}
+use Rattle.std.specs.Prelude.{All, Contains, Result, Ok, Err, IfOk}
 use Rattle.std.proofs.lemmas.Bool.{cases_Bool, both_ways}
-use Rattle.std.proofs.lemmas.List.{get_or_append_left, get_or-take, length-map}
-use Rattle.std.proofs.lemmas.List.Elements.{All-nil, All-weaker, All-contains}
+use Rattle.std.proofs.lemmas.List.{get_or_append_left, length-map}
+use Rattle.std.proofs.lemmas.List.Elements.{All-nil, All-weaker}
 use Rattle.std.proofs.lemmas.Option.{slice_get-get_or, get_or_from_slice_get}
 use Rattle.ground_program.specs.Meaning.{has, IsProperSubset, IsSetOver}
 use Rattle.clause_store.specs.declared.literal.Lit.{Lit}
@@ -22,15 +22,22 @@ use Rattle.normal_program.specs.Body.{body_holds}
 use Rattle.normal_program.specs.Limit.{IsNormal}
 use Rattle.normal_program.specs.Loop.{IsLocalWithin}
 use Rattle.normal_program.specs.Models.{IsAssignmentOf, set_of}
-use Rattle.normal_program.specs.Normal.{extension, greatest_body_var, KeepsAllN}
+use Rattle.normal_program.specs.Normal.{extension, greatest_body_var}
 use Rattle.normal_program.specs.Spent.{inner_clauses}
 use Rattle.normal_program.proofs.RangeLemmas.{IsNormal-in_range}
-use Rattle.completion.specs.Within.{IsSmaller}
 use Rattle.completion.proofs.PartLemmas.{none_at_0, smaller_meets}
 use Rattle.completion.proofs.SmallerLemmas.{met_makes_smaller}
-use Rattle.assumption_engine.specs.Answer.{IsCoreOf, IsModelOn}
-use Rattle.minimality_test.specs.Minimality.{HasCountedWithin, IsMinimal, IsSmallerThan}
-use Rattle.minimality_test.specs.Parts.{IsPartModel, meaning_of}
+use Rattle.assumption_engine.specs.declared.answer.Answer.{Answer}
+use Rattle.assumption_engine.specs.declared.answer.Answer.TheVariants.{Model, Core, SpentInside}
+use Rattle.assumption_engine.specs.declared.answer.Answer.TheVariants.{Paused, Spent as UsedUp}
+use Rattle.assumption_engine.specs.declared.answer.Answer.TheVariants.{NoMemory as WantsMemory}
+use Rattle.assumption_engine.specs.Answer.{IsAnswer, IsCountedRight, IsCoreOf, IsModelOn}
+use Rattle.minimality_test.specs.declared.answer.Minimality.{Minimality}
+use Rattle.minimality_test.specs.declared.answer.Minimality.TheVariants.{NoMemory}
+use Rattle.minimality_test.specs.Search.{MayCome, read_as}
+use Rattle.minimality_test.specs.Minimality.{HasAnswered, HasCountedWithin, IsMinimal}
+use Rattle.minimality_test.specs.Minimality.{IsSmallerThan}
+use Rattle.minimality_test.specs.Parts.{meaning_of}
 
 -- ---- a smaller part
 
@@ -76,7 +83,7 @@ extension_assigns : (normal : Normal) (set part : List Bool) → IsSetOver norma
 extension_assigns normal set part over =
     let rest = map (body_holds set part) normal.bodies in
     let size : length (part ++ rest) ≡ length part + length rest = length-append part rest in
-    let count : length rest ≡ length normal.bodies = length-map (body_holds set part) normal.bodies
+    let count : length rest ≡ length normal.bodies = length-map normal.bodies (body_holds set part)
     in
     record {
       variables = omega (arith, size, count, over.positions);
@@ -130,3 +137,63 @@ counted_within normal set before after clauses added unused inner counts history
           (subst (AreRefutedWith (IsLocalWithin normal set) clauses) (sym units)
           (history_is_refuted_by (IsLocalWithin normal set) clauses added history));
     }
+
+-- ---- how the answers are read
+
+module _ (normal : Normal) (set : List Bool) (trail : Assigned) (after : Counted) where
+  -- those that came may come
+  pub may_come : (answer : Answer)
+      → (answer ≢ WantsMemory → IsAnswer (meaning_of normal set) [] [] after.limit trail answer)
+      → (answer ≢ WantsMemory → IsCountedRight after.limit after answer) → MayCome answer
+  may_come Model says counted = tt
+  may_come (Core core) says counted = tt
+  may_come UsedUp says counted = tt
+  may_come (SpentInside inside units) says counted = (says (λ e. cc)).check.spent
+  may_come Paused says counted =
+      let over = counted (λ e. cc) in omega (arith, over.at_stop, over.limit)
+  may_come WantsMemory says counted = tt
+
+  -- they say what they should
+  pub read_right : IsNormal normal → IsSetOver normal.atoms set → (answer : Answer)
+      → (answer ≢ WantsMemory → IsAnswer (meaning_of normal set) [] [] after.limit trail answer)
+      → (answer ≢ WantsMemory → IsCountedRight after.limit after answer)
+      → HasAnswered normal set after (read_as normal trail answer)
+  read_right is_normal over Model says counted = (
+    model_smaller normal is_normal set over trail (says (λ e. cc)),
+    (counted (λ e. cc)).limit,
+  )
+  read_right is_normal over (Core core) says counted = (
+    core_minimal normal is_normal set over core (says (λ e. cc)),
+    (counted (λ e. cc)).limit,
+  )
+  read_right is_normal over UsedUp says counted = counted (λ e. cc)
+  read_right is_normal over (SpentInside inside units) says counted =
+      absurd ((says (λ e. cc)).check.spent)
+  read_right is_normal over Paused says counted =
+      absurd (may_come Paused says counted)
+  read_right is_normal over WantsMemory says counted = tt
+
+  -- only want of memory is read as such
+  pub read_alive : (answer : Answer) → read_as normal trail answer ≢ NoMemory
+      → answer ≢ WantsMemory
+  read_alive answer alive is = alive (ap (read_as normal trail) is)
+
+  -- what is read from it
+  pub read_says : {E : Type 0} → IsNormal normal → IsSetOver normal.atoms set → (answer : Answer)
+      → (answer ≢ WantsMemory → IsAnswer (meaning_of normal set) [] [] after.limit trail answer)
+      → (answer ≢ WantsMemory → IsCountedRight after.limit after answer)
+      → (result : Result Minimality E) → IfOk result (λ it. it ≡ read_as normal trail answer)
+      → IfOk result (HasAnswered normal set after)
+  read_says is_normal over answer says counted (Ok it) is =
+      subst (HasAnswered normal set after) (sym is)
+      (read_right is_normal over answer says counted)
+  read_says is_normal over answer says counted (Err e) is = tt
+
+  -- and what was counted then
+  pub read_counts : {E : Type 0} (before : Counted) (answer : Answer)
+      → (answer ≢ WantsMemory → HasCountedWithin normal set before after)
+      → (result : Result Minimality E) → IfOk result (λ it. it ≡ read_as normal trail answer)
+      → IfOk result (λ it. it ≢ NoMemory → HasCountedWithin normal set before after)
+  read_counts before answer counted (Ok it) is =
+      λ alive. counted (read_alive answer (λ e. alive (is ∙ e)))
+  read_counts before answer counted (Err e) is = tt

@@ -1,7 +1,7 @@
 -- The theory keeps its laws.
-use Rattle.std.proofs.Common.{◌≡◌, ◌≤◌, ◌<◌, ◌+◌, ◌⊎◌, ℕ, Bool, List, length, take, get_or, Option}
-use Rattle.std.proofs.Common.{Some, slice_get, refl, sym, ap, ◌∙◌, subst, inl, inr, arith}
-use Rattle.std.specs.Prelude.{All, Any, Contains, Result, Ok, Err, IfOk}
+use Rattle.std.proofs.Common.{◌≡◌, ◌≤◌, ◌<◌, ◌+◌, ◌⊎◌, ℕ, Bool, List, length, take, get_or}
+use Rattle.std.proofs.Common.{Some, refl, sym, subst, inl, inr, arith}
+use Rattle.std.specs.Prelude.{All, Any, Result, Ok, Err, IfOk}
 use Rattle.std.proofs.lemmas.List.Elements.{All-contains}
 use Rattle.std.proofs.lemmas.Option.{slice_get_within, get_or_from_slice_get}
 use Rattle.ground_program.specs.Meaning.{IsSetOver}
@@ -18,11 +18,10 @@ use Rattle.normal_program.specs.declared.normal.Normal.{Normal}
 use Rattle.normal_program.specs.Limit.{IsNormal}
 use Rattle.normal_program.specs.Loop.{IsAtomOf, IsLocalWithin, SpeaksOf}
 use Rattle.normal_program.specs.Models.{set_of}
-use Rattle.normal_program.specs.Normal.{body_var, extension, greatest_body_var}
+use Rattle.normal_program.specs.Normal.{body_var, greatest_body_var}
 use Rattle.normal_program.specs.Range.{IsInRange}
 use Rattle.normal_program.specs.Spent.{inner_clauses}
 use Rattle.normal_program.proofs.RangeLemmas.{IsNormal-in_range}
-use Rattle.completion.specs.Within.{IsMetWithin}
 use Rattle.completion.proofs.SmallerLemmas.{met_makes_smaller}
 use Rattle.weight_propagator.specs.Gives.{IsQuiet}
 use Rattle.weight_propagator.specs.Weighed.{Weighed, IsSaid, IsGiven as GivenByWeights}

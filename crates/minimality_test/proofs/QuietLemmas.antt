@@ -1,6 +1,6 @@
 -- Where no weight body gives a clause on a total trail, each means what it should.
-use Rattle.std.proofs.Common.{◌≡◌, ◌≢◌, ◌≤◌, ◌<◌, ◌+◌, ℕ, Bool, true, false, not, cond, leb, List}
-use Rattle.std.proofs.Common.{length, get_or, Option, Some, slice_get, refl, sym, ap, ◌∙◌, subst}
+use Rattle.std.proofs.Common.{◌≡◌, ◌≢◌, ◌≤◌, ◌<◌, ℕ, Bool, true, false, not, cond, List}
+use Rattle.std.proofs.Common.{length, get_or, Some, refl, sym, ap, ◌∙◌, subst}
 use Rattle.std.proofs.Common.{inl, inr, arith}
 use Rattle.std.specs.Prelude.{All, sum_by, if◌then◌else◌}
 use Rattle.std.proofs.lemmas.Bool.{cases_lt, le-leb, lt-leb}
@@ -10,7 +10,6 @@ use Rattle.ground_program.specs.declared.program.AtomLit.{AtomLit}
 use Rattle.ground_program.specs.Meaning.{has, counts}
 use Rattle.clause_store.specs.declared.literal.Value.{Value}
 use Rattle.clause_store.specs.declared.literal.Value.TheVariants.{Yes, No, Unset}
-use Rattle.clause_store.specs.Clause.{truth}
 use Rattle.clause_store.specs.Trail.{Assigned, IsTotal, value_of, is_yes, values_of}
 use Rattle.normal_program.specs.declared.normal.Part.{Part}
 use Rattle.normal_program.specs.declared.normal.BodyOf.{BodyOf}
@@ -21,7 +20,7 @@ use Rattle.normal_program.specs.Clauses.{positive, negative}
 use Rattle.normal_program.specs.Loop.{IsAtomOf}
 use Rattle.normal_program.specs.Models.{set_of, MeansWeightBodiesWithin}
 use Rattle.normal_program.specs.Range.{IsInRange}
-use Rattle.weight_propagator.specs.Gives.{value_in, if_true, unless_false, true_sum, open_sum, Gives}
+use Rattle.weight_propagator.specs.Gives.{value_in, if_true, unless_false, Gives}
 use Rattle.weight_propagator.specs.Gives.{IsQuiet}
 use Rattle.weight_propagator.specs.Gives.GivesBy.{reached, missed}
 use Rattle.minimality_test.proofs.TotalLemmas.{truth_on, valued, has_atom}

@@ -1,8 +1,9 @@
 // The test whether a set is minimal: a search with the clauses for its parts, over their theory.
-ghost use Rattle.std.specs.Prelude.{◌≡◌, ◌≢◌, ◌≤◌, [], IfOk, OnOk};
+ghost use Rattle.std.specs.Prelude.{◌≡◌, ◌≢◌, ◌≤◌, ◌<◌, ◌^◌, [], IfOk};
 ghost use Rattle.ground_program.specs.Meaning.{IsSetOver};
 ghost use Rattle.normal_program.specs.Limit.{IsNormal};
 ghost use Rattle.normal_program.specs.Normal.{KeepsAllN};
+ghost use Rattle.minimality_test.specs.Search.{IsSearch, IsSearched, MayCome, read_as};
 ghost use Rattle.minimality_test.specs.Minimality.{HasAnswered, HasCountedWithin};
 
 use crate::answer::Minimality;
@@ -58,9 +59,30 @@ fn search_parts(
         → HasCountedWithin normal.now set.now budget.old budget.new) }
 {
     let mut engine = open_engine(alloc, normal, set)?;
-    let limit = budget.limit();
-    let answer = engine.ask(alloc, &[], budget, limit);
+    let answer = ask_for_part(alloc, &mut engine, budget);
     read_answer(alloc, normal, engine.trail(), answer)
+}
+
+/// What the engine's answer says of the set. It isn't paused before its budget is used up, and its
+/// theory has no check of its own that could be.
+fn read_answer(
+    alloc: Global,
+    normal: &Normal,
+    trail: &Trail,
+    answer: Answer,
+) -> Result<Minimality, NoMemory>
+    requires few { normal.now.atoms < 2 ^ 31 }
+    requires over { answer ≡ Answer.Model → normal.now.atoms ≤ trail.now.vars }
+    requires comes { MayCome answer }
+    ensures { IfOk result (λ it. it ≡ read_as normal.now trail.now answer) }
+{
+    match answer {
+        Answer::Model => Ok(Minimality::Smaller(atoms_on(alloc, normal, trail)?)),
+        Answer::Core(_) => Ok(Minimality::Minimal),
+        Answer::Spent => Ok(Minimality::Spent),
+        Answer::NoMemory => Ok(Minimality::NoMemory),
+        Answer::SpentInside { .. } | Answer::Paused => unreachable!(),
+    }
 }
 
 /// An engine whose models come from the smaller parts of the set.
@@ -71,6 +93,9 @@ fn open_engine<'a>(
 ) -> Result<Engine<PartTheory<'a>>, NoMemory>
     requires normal { IsNormal normal.now }
     requires over { IsSetOver normal.now.atoms set.now }
+    ensures theory { IfOk result (λ it. it.theory
+        ≡ record { normal = normal.now; set = set.now; followed = [] }) }
+    ensures search { IfOk result (λ it. IsSearch it.theory it.state it.defined it.dead) }
 {
     let mut store = Store::open();
     complete_within(alloc, normal, set, &mut store)?;
@@ -78,18 +103,19 @@ fn open_engine<'a>(
     Engine::open(alloc, normal.greatest_body_var(), store, theory)
 }
 
-/// What the engine's answer says of the set.
-fn read_answer(
+/// Asks for a model, with all of an unused budget.
+fn ask_for_part<'a>(
     alloc: Global,
-    normal: &Normal,
-    trail: &Trail,
-    answer: Answer,
-) -> Result<Minimality, NoMemory> {
-    match answer {
-        Answer::Model => Ok(Minimality::Smaller(atoms_on(alloc, normal, trail)?)),
-        Answer::Core(_) => Ok(Minimality::Minimal),
-        Answer::Spent => Ok(Minimality::Spent),
-        Answer::NoMemory => Ok(Minimality::NoMemory),
-        Answer::SpentInside { .. } | Answer::Paused => unreachable!(),
-    }
+    engine: &mut Engine<PartTheory<'a>>,
+    budget: &mut Budget,
+) -> Answer
+    requires search { IsSearch engine.old.theory engine.old.state engine.old.defined
+        engine.old.dead }
+    requires unused { budget.old.units ≡ [] }
+    requires some { 1 ≤ budget.old.limit }
+    ensures { result ≢ Answer.NoMemory
+        → IsSearched engine.old.theory engine.new.state budget.old budget.new result }
+{
+    let limit = budget.limit();
+    engine.ask(alloc, &[], budget, limit)
 }

@@ -1,4 +1,4 @@
-use Rattle.std.proofs.Common.{◌≡◌, sym, subst}
+use Rattle.std.proofs.Common.{sym, subst}
 use Rattle.clause_store.specs.declared.theory_says.Says.TheVariants.{Quiet, Clause as Given}
 use Rattle.weight_propagator.specs.Weighed.{IsSaid}
 use Rattle.assumption_engine.specs.Theory.{IsChecked}
