@@ -16,16 +16,17 @@ use Rattle.clause_store.proofs.BackLemmas.{back_twice, none_up_to}
 use Rattle.propagator.specs.Fixpoint.{Extends, IsFixpoint}
 use Rattle.propagator.proofs.ClosureLemmas.{fixpoint_absorbs_no_unit}
 use Rattle.propagator.proofs.ExtendLemmas.{same_level}
-use Rattle.conflict_learning.specs.Analysis.{IsAsserting, greatest_level}
+use Rattle.conflict_learning.specs.Analysis.{IsAsserting, StandsIn, greatest_level}
 use Rattle.conflict_learning.specs.declared.learned.Learned.{Learned}
 use Rattle.conflict_learning.proofs.UnitLemmas.{back_is_lower, learned_is_a_unit}
-use Rattle.assumption_engine.specs.Engine.{IsAsBelow, IsLearned, Taught, WentBack}
+use Rattle.assumption_engine.specs.Engine.{HasPropagated, IsAsBelow, IsLearned, Taught}
+use Rattle.assumption_engine.specs.Engine.{WentBack}
 use Rattle.assumption_engine.specs.Progress.{weight}
-use Rattle.assumption_engine.specs.declared.state.State.{State}
+use Rattle.search_state.specs.State.{Searched}
 use Rattle.assumption_engine.proofs.ProgressLemmas.{weight_after_back}
 use Rattle.clause_store.proofs.lemmas.Trails.StillLemmas.{values_stay}
-use Rattle.search_state.specs.Assumed.{AreAssumedFirst}
-use Rattle.search_state.proofs.AssumedLemmas.{first_after_back, first_extended}
+use Rattle.assumption_engine.specs.Sided.{AreInOrder, AreOpposed}
+use Rattle.assumption_engine.proofs.SidedLemmas.{opposed, order_after_back, order_extended}
 
 -- ---- one conflict
 
@@ -38,17 +39,18 @@ pub record IsAnalysed (clauses : List (List Lit)) (trail : Assigned) (learned : 
   pub over : All (IsOver trail.vars) learned.clause
   pub asserting : IsAsserting trail.steps learned.clause learned.asserting
   pub back : learned.back ≡ greatest_level trail.steps (others learned.clause learned.asserting)
+  pub stands : All (StandsIn clauses) learned.clause
 
-pub taught : (old mid new : State) (learned : Learned) (level : ℕ) → 0 < level
+pub taught : (old mid new : Searched) (learned : Learned) (level : ℕ) → 0 < level
     → level ≤ present_level old.trail.steps → WentBack level old mid
-    → IsAnalysed mid.store mid.trail learned → WentBack learned.back mid new
+    → IsAnalysed mid.clauses mid.trail learned → WentBack learned.back mid new
     → Taught old new learned
 taught old mid new learned level above within first is second =
     record {
       lower = omega (arith, lower, first.present);
       back =
           record {
-            store = second.store ∙ first.store;
+            clauses = second.clauses ∙ first.clauses;
             trail =
                 second.trail
                 ∙ ap (λ (t : Assigned). record t { steps = up_to learned.back t.steps }) first.trail
@@ -58,11 +60,12 @@ taught old mid new learned level above within first is second =
             present = second.present;
             was_trail = first.was_trail;
             is_trail = second.is_trail;
+            of_store = second.of_store;
           };
       is_learned =
           record {
             refuted =
-                subst (λ clauses. Refutes clauses (negations learned.clause)) (sym second.store)
+                subst (λ clauses. Refutes clauses (negations learned.clause)) (sym second.clauses)
                 is.refuted;
             once = is.once;
             over =
@@ -71,9 +74,20 @@ taught old mid new learned level above within first is second =
             others =
                 subst (λ t. All (λ other. other ≢ learned.asserting → IsFalse t.steps other)
                 learned.clause) (sym second.trail) forces.others;
+            stands =
+                subst (λ clauses. All (StandsIn clauses) learned.clause) (sym second.clauses)
+                is.stands;
           };
       unset =
           subst (λ t. value_of t.steps learned.asserting ≡ Unset) (sym second.trail) forces.unset;
+      opposed =
+          λ assumed order.
+          subst (λ clauses. AreOpposed clauses assumed learned.clause)
+          (sym (second.clauses ∙ first.clauses))
+          (opposed old.clauses assumed mid.trail.steps learned.clause
+          (subst (λ t. AreInOrder old.clauses assumed t.steps) (sym first.trail)
+          (order_after_back old.clauses assumed old.trail level first.was_trail order))
+          is.is_false);
     }
   where
     high : 0 < present_level mid.trail.steps
@@ -95,27 +109,29 @@ taught old mid new learned level above within first is second =
 -- ---- a clause that may be counted
 
 -- it stays one when assignments come last
-pub learned_extended : (clauses more : List (List Lit)) (old new : Assigned) (clause : List Lit)
-    (lit : Lit) → more ≡ clauses → Extends old new → IsLearned clauses old clause lit
-    → IsLearned more new clause lit
-learned_extended clauses more old new clause lit store extends is =
+pub learned_extended : (old new : Searched) (clause : List Lit) (lit : Lit)
+    → HasPropagated old new → IsLearned old.clauses old.trail clause lit
+    → IsLearned new.clauses new.trail clause lit
+learned_extended old new clause lit by is =
     record {
-      refuted = subst (λ all. Refutes all (negations clause)) (sym store) is.refuted;
+      refuted = subst (λ all. Refutes all (negations clause)) (sym by.clauses) is.refuted;
       once = is.once;
-      over = subst (λ n. All (IsOver n) clause) (sym extends.vars) is.over;
+      over = subst (λ n. All (IsOver n) clause) (sym by.extends.vars) is.over;
       here = is.here;
       others =
-          All-weaker (λ other. other ≢ lit → IsFalse old.steps other)
-          (λ other. other ≢ lit → IsFalse new.steps other)
+          All-weaker (λ other. other ≢ lit → IsFalse old.trail.steps other)
+          (λ other. other ≢ lit → IsFalse new.trail.steps other)
           (λ other no differs.
           let is_no = no differs in
-          subst (λ steps. IsFalse steps other) (sym extends.steps)
-          ((values_stay old.steps extends.added other
+          subst (λ steps. IsFalse steps other) (sym by.extends.steps)
+          ((values_stay old.trail.steps by.extends.added other
           (λ unset. no_and_unset other is_no unset)).value ∙ is_no)) clause is.others;
+      stands =
+          subst (λ clauses. All (StandsIn clauses) clause) (sym by.clauses) is.stands;
     }
   where
-    no_and_unset : (other : Lit) → value_of old.steps other ≡ No → value_of old.steps other ≡ Unset
-        → ⊥
+    no_and_unset : (other : Lit) → value_of old.trail.steps other ≡ No
+        → value_of old.trail.steps other ≡ Unset → ⊥
     no_and_unset other is_no unset = cc
 
 pub new_work : (clauses : List (List Lit)) (trail : Assigned) (clause : List Lit) (lit : Lit)
@@ -137,25 +153,25 @@ new_work clauses trail clause lit is fixpoint learned unset =
 -- ---- several conflicts
 
 -- a search went back over conflicts
-pub record IsDown (old new : State) : Type 0 where
-  pub store : new.store ≡ old.store
+pub record IsDown (old new : Searched) : Type 0 where
+  pub clauses : new.clauses ≡ old.clauses
   pub vars : new.trail.vars ≡ old.trail.vars
   pub was_trail : IsTrail old.trail
   pub is_trail : IsTrail new.trail
   pub below : IsAsBelow old.trail.steps new.trail.steps
-  pub first :
-      (assumed : List Lit) → AreAssumedFirst assumed old.trail.steps
-      → AreAssumedFirst assumed new.trail.steps
+  pub order :
+      (assumed : List Lit) → AreInOrder old.clauses assumed old.trail.steps
+      → AreInOrder new.clauses assumed new.trail.steps
 
-pub down_start : (state : State) → IsTrail state.trail → IsDown state state
+pub down_start : (state : Searched) → IsTrail state.trail → IsDown state state
 down_start state is =
     record {
-      store = refl;
+      clauses = refl;
       vars = refl;
       was_trail = is;
       is_trail = is;
       below = record { level = omega arith; same = λ level below. refl };
-      first = λ assumed first. first;
+      order = λ assumed order. order;
     }
 
 -- below its level a trail is not changed by what comes last
@@ -169,34 +185,44 @@ same_below level old new is below =
     ap (up_to level) is.steps ∙ filter-append (λ s. nat_le s.level level) old.steps is.added
     ∙ ap (λ more. up_to level old.steps ++ more) gone ∙ append-nil (up_to level old.steps)
 
-pub down_further : (old now back new : State) (learned : Learned) → IsDown old now
-    → Taught now back learned → new.store ≡ back.store → Extends back.trail new.trail
-    → IsTrail new.trail → IsDown old new
-down_further old now back new learned down is store extends is_trail =
+pub down_further : (old now back new : Searched) (learned : Learned) → IsDown old now
+    → Taught now back learned → HasPropagated back new → IsDown old new
+down_further old now back new learned down is by =
     record {
-      store = store ∙ is.back.store ∙ down.store;
-      vars = extends.vars ∙ ap (λ t. t.vars) is.back.trail ∙ down.vars;
+      clauses = by.clauses ∙ is.back.clauses ∙ down.clauses;
+      vars = by.extends.vars ∙ ap (λ t. t.vars) is.back.trail ∙ down.vars;
       was_trail = down.was_trail;
-      is_trail = is_trail;
+      is_trail = by.is_trail;
       below =
           record {
             level = omega (arith, level, is.back.present, is.lower, down.below.level);
             same = λ low below.
-                same_below low back.trail new.trail extends (omega (arith, below, level))
+                same_below low back.trail new.trail by.extends (omega (arith, below, level))
                 ∙ ap (λ t. up_to low t.steps) is.back.trail
                 ∙ back_twice low learned.back now.trail.steps
                 (omega (arith, below, level, is.back.present))
                 ∙ down.below.same low (omega (arith, below, level, is.back.present, is.lower));
           };
-      first =
-          λ assumed first. first_extended assumed back.trail new.trail extends
-          (subst (λ t. AreAssumedFirst assumed t.steps) (sym is.back.trail)
-          (first_after_back assumed now.trail learned.back down.is_trail
-          (down.first assumed first)));
+      order =
+          λ assumed order. order_extended new.clauses assumed back.trail new.trail by.extends
+          by.of_store
+          (subst (λ clauses. AreInOrder clauses assumed back.trail.steps)
+          (sym (by.clauses ∙ is.back.clauses))
+          (subst (λ t. AreInOrder now.clauses assumed t.steps) (sym is.back.trail)
+          (order_after_back now.clauses assumed now.trail learned.back down.is_trail
+          (down.order assumed order))));
     }
   where
     level : present_level new.trail.steps ≡ present_level back.trail.steps
-    level = same_level back.trail new.trail extends
+    level = same_level back.trail new.trail by.extends
+
+-- what was learned then stands as it did
+pub opposed_further : (now back new : Searched) (learned : Learned) (assumed : List Lit)
+    → Taught now back learned → HasPropagated back new
+    → AreInOrder now.clauses assumed now.trail.steps → AreOpposed new.clauses assumed learned.clause
+opposed_further now back new learned assumed is by order =
+    subst (λ clauses. AreOpposed clauses assumed learned.clause) (sym by.clauses)
+    (is.opposed assumed order)
 
 -- a literal that was unset is assigned by what came last
 came : (old new : Assigned) (lit : Lit) → Extends old new → value_of old.steps lit ≡ Unset
@@ -207,7 +233,7 @@ came old new lit is unset set added steps none =
     ∙ append-nil old.steps) ∙ unset)
 
 -- where the asserting literal was assigned, the trail weighs more
-pub weighs_more : (old now back new : State) (learned : Learned) → IsDown old now
+pub weighs_more : (old now back new : Searched) (learned : Learned) → IsDown old now
     → Taught now back learned → Extends back.trail new.trail
     → value_of new.trail.steps learned.asserting ≢ Unset → weight old.trail < weight new.trail
 weighs_more old now back new learned down is extends set =

@@ -1,5 +1,5 @@
 -- How a search goes on: which decisions come first, and which clauses come.
-use Rattle.std.proofs.Common.{◌≡◌, List, [], ◌∷◌, ◌++◌}
+use Rattle.std.proofs.Common.{◌≡◌, ℕ, List, [], ◌∷◌, ◌++◌}
 use Rattle.std.proofs.Common.{refl, sym, ap, ◌∙◌, subst, arith}
 use Rattle.std.proofs.Common.{append_assoc, get_or}
 use Rattle.std.specs.Prelude.{All, Contains, Bool}
@@ -22,35 +22,44 @@ use Rattle.clause_store.proofs.LiteralLemmas.{all_through, has_first, has_later}
 use Rattle.clause_store.proofs.lemmas.Units.HistoryLemmas.{histories_add, histories_compose}
 use Rattle.clause_store.proofs.lemmas.Units.HistoryLemmas.{history_has_units}
 use Rattle.clause_store.proofs.lemmas.Units.UnitLemmas.{units_among_fewer, units_split}
-use Rattle.propagator.specs.Watched.{IsReady}
+use Rattle.conflict_learning.specs.Analysis.{StandsIn}
 use Rattle.assumption_engine.specs.Theory.{Meaning, MeansTheSame}
 use Rattle.assumption_engine.specs.Engine.{GoesOn, HasCounted}
 use Rattle.assumption_engine.specs.Engine.{IsModelOf, IsRight}
-use Rattle.assumption_engine.specs.declared.state.State.{State}
+use Rattle.search_state.specs.State.{Searched}
 use Rattle.assumption_engine.proofs.SameLemmas.{model_same}
-use Rattle.search_state.specs.Assumed.{AreAssumedFirst}
+use Rattle.assumption_engine.specs.Sided.{AreAsAssumed, AreInOrder, AreOpposed, IsOneSided}
+use Rattle.assumption_engine.specs.Sided.{positive}
+use Rattle.assumption_engine.proofs.SidedLemmas.{as_assumed_before, lacks_unnegated}
+use Rattle.assumption_engine.proofs.SidedLemmas.{learned_as_assumed, order_with_clause, sided_back}
+use Rattle.assumption_engine.proofs.SidedLemmas.{sided_same}
+use Rattle.assumption_engine.proofs.SidedLemmas.{sided_with}
 
 -- ---- going on
 
 -- nothing came
-pub goes_on_still : (meaning : Meaning) (assumed : List Lit) (old new : State)
-    (before after : Counted) → new.trail.vars ≡ old.trail.vars → new.store ≡ old.store
+pub goes_on_still : (meaning : Meaning) (assumed : List Lit) (old new : Searched)
+    (before after : Counted) → new.trail.vars ≡ old.trail.vars → new.clauses ≡ old.clauses
     → after ≡ before
-    → (AreAssumedFirst assumed old.trail.steps → AreAssumedFirst assumed new.trail.steps)
+    → (AreInOrder old.clauses assumed old.trail.steps
+    → AreInOrder new.clauses assumed new.trail.steps)
     → GoesOn meaning assumed old new before after
-goes_on_still meaning assumed old new before after vars store same first =
+goes_on_still meaning assumed old new before after vars store same order =
     record {
       vars = vars;
       added = [];
-      clauses = store ∙ sym (append-nil old.store);
+      clauses = store ∙ sym (append-nil old.clauses);
       counts = same ∙ ap (λ units. record before { units = units }) (sym (append-nil before.units));
       history = record { history = tt; kind = All-nil meaning.may_give };
       are_units = tt;
-      first = first;
+      sided =
+          λ var is. subst (λ clauses. IsOneSided meaning.may_give clauses var) (sym store) is;
+      as_assumed = All-nil (AreAsAssumed meaning.may_give old.clauses assumed);
+      order = order;
     }
 
 -- one after the other
-pub goes_on_then : (one two : Meaning) (assumed : List Lit) (first second third : State)
+pub goes_on_then : (one two : Meaning) (assumed : List Lit) (first second third : Searched)
     (before mid after : Counted) → MeansTheSame one two
     → GoesOn one assumed first second before mid → GoesOn two assumed second third mid after
     → GoesOn one assumed first third before after
@@ -61,8 +70,8 @@ goes_on_then one two assumed first second third before mid after same early late
       added = early.added ++ late.added;
       clauses =
           late.clauses ∙ ap (λ clauses. clauses ++ added_clauses late.added) early.clauses
-          ∙ append_assoc first.store (added_clauses early.added) (added_clauses late.added)
-          ∙ ap (λ clauses. first.store ++ clauses) (sym together.added_is);
+          ∙ append_assoc first.clauses (added_clauses early.added) (added_clauses late.added)
+          ∙ ap (λ clauses. first.clauses ++ clauses) (sym together.added_is);
       counts =
           late.counts
           ∙ ap (λ (it : Counted). record it { units = it.units ++ counted_clauses late.added })
@@ -73,7 +82,7 @@ goes_on_then one two assumed first second third before mid after same early late
       history =
           record {
             history =
-                (histories_compose first.store early.added late.added).1 (
+                (histories_compose first.clauses early.added late.added).1 (
                   early.history.history,
                   subst (λ clauses. IsHistory clauses late.added) early.clauses
                       late.history.history,
@@ -86,25 +95,36 @@ goes_on_then one two assumed first second third before mid after same early late
                 (given_clauses late.added) late.history.kind));
           };
       are_units =
-          subst (AreUnits first.store) (sym together.added_is)
-          ((units_split first.store (added_clauses early.added) (added_clauses late.added)).1 (
+          subst (AreUnits first.clauses) (sym together.added_is)
+          ((units_split first.clauses (added_clauses early.added) (added_clauses late.added)).1 (
             early.are_units,
             subst (λ clauses. AreUnits clauses (added_clauses late.added)) early.clauses
                 late.are_units,
           ));
-      first = λ is. late.first (early.first is);
+      sided =
+          λ var is. sided_back one two third.clauses var same
+          (late.sided var (sided_same one two second.clauses var same (early.sided var is)));
+      as_assumed =
+          subst (All (AreAsAssumed one.may_give first.clauses assumed)) (sym together.counted_is)
+          (All-append (AreAsAssumed one.may_give first.clauses assumed)
+          (counted_clauses early.added) (counted_clauses late.added) early.as_assumed
+          (as_assumed_before one two first.clauses second.clauses assumed
+          (counted_clauses late.added) same early.sided late.as_assumed));
+      order = λ is. late.order (early.order is);
     }
 
 -- ---- what was counted
 
-pub counted_none : (meaning : Meaning) (defined clauses : List (List Lit))
-    (before after : Counted) → after ≡ before → HasCounted meaning defined clauses before after
-counted_none meaning defined clauses before after same =
+pub counted_none : (meaning : Meaning) (assumed : List Lit) (defined clauses : List (List Lit))
+    (before after : Counted) → after ≡ before
+    → HasCounted meaning assumed defined clauses before after
+counted_none meaning assumed defined clauses before after same =
     record {
       units = [];
       counts = same ∙ ap (λ units. record before { units = units }) (sym (append-nil before.units));
       are = tt;
       hold = λ values model. All-nil (HoldsIn values);
+      sided = All-nil (AreAsAssumed meaning.may_give clauses assumed);
     }
 
 -- those that were counted came
@@ -144,13 +164,13 @@ still_there clauses more added is =
 
 -- what was counted first, and then more
 pub counted_then : (one two : Meaning) (followed : List Followed) (defined : List (List Lit))
-    (assumed : List Lit) (first second : State) (before mid after : Counted)
+    (assumed : List Lit) (first second : Searched) (before mid after : Counted)
     → MeansTheSame one two → IsRight two followed second defined
     → GoesOn one assumed first second before mid
-    → HasCounted two defined second.store mid after
-    → HasCounted one defined first.store before after
+    → HasCounted two assumed defined second.clauses mid after
+    → HasCounted one assumed defined first.clauses before after
 counted_then one two followed defined assumed first second before mid after same right on late =
-    let there = still_there first.store second.store on.added on.clauses in
+    let there = still_there first.clauses second.clauses on.added on.clauses in
     record {
       units = counted_clauses on.added ++ late.units;
       counts =
@@ -159,89 +179,118 @@ counted_then one two followed defined assumed first second before mid after same
           ∙ ap (λ units. record before { units = units })
           (append_assoc before.units (counted_clauses on.added) late.units);
       are =
-          (units_split first.store (counted_clauses on.added) late.units).1 (
-            history_has_units first.store on.added on.history.history,
-            units_among_fewer (first.store ++ counted_clauses on.added) second.store late.units
+          (units_split first.clauses (counted_clauses on.added) late.units).1 (
+            history_has_units first.clauses on.added on.history.history,
+            units_among_fewer (first.clauses ++ counted_clauses on.added) second.clauses late.units
                 there late.are,
           );
       hold =
           λ values model.
           let then = model_same one two defined values same model in
           All-append (HoldsIn values) (counted_clauses on.added) late.units
-          (all_through (HoldsIn values) (counted_clauses on.added) second.store
-          (counted_there first.store second.store on.added on.clauses)
+          (all_through (HoldsIn values) (counted_clauses on.added) second.clauses
+          (counted_there first.clauses second.clauses on.added on.clauses)
           (right.holds values then))
           (late.hold values then);
+      sided =
+          All-append (AreAsAssumed one.may_give first.clauses assumed) (counted_clauses on.added)
+          late.units on.as_assumed
+          (as_assumed_before one two first.clauses second.clauses assumed late.units same on.sided
+          late.sided);
     }
 
 -- so with nothing more
 pub counted_of : (one two : Meaning) (followed : List Followed) (defined : List (List Lit))
-    (assumed : List Lit) (first second : State) (before after : Counted)
+    (assumed : List Lit) (first second : Searched) (before after : Counted)
     → MeansTheSame one two → IsRight two followed second defined
     → GoesOn one assumed first second before after
-    → HasCounted one defined first.store before after
+    → HasCounted one assumed defined first.clauses before after
 counted_of one two followed defined assumed first second before after same right on =
     counted_then one two followed defined assumed first second before after after same right on
-    (counted_none two defined second.store after after refl)
+    (counted_none two assumed defined second.clauses after after refl)
 
 -- ---- a clause comes
 
-pub right_added : (meaning : Meaning) (followed : List Followed) (old new : State)
+-- a state with a clause put last
+abbrev pub with_clause : Searched → List Lit → Searched
+with_clause state clause = record state { clauses = state.clauses ++ clause ∷ [] }
+
+-- a variable that the clause hasn't unnegated stays one-sided
+sided_after : (meaning : Meaning) (old new : Searched) (clause : List Lit) (var : ℕ)
+    → new ≡ with_clause old clause → (Contains clause (positive var) → ⊥)
+    → IsOneSided meaning.may_give old.clauses var → IsOneSided meaning.may_give new.clauses var
+sided_after meaning old new clause var put lacks is =
+    subst (λ s. IsOneSided meaning.may_give s.clauses var) (sym put)
+    (sided_with meaning.may_give old.clauses clause var lacks is)
+
+-- what was in order stays so
+order_after : (assumed : List Lit) (old new : Searched) (clause : List Lit)
+    → new ≡ with_clause old clause → AreInOrder old.clauses assumed old.trail.steps
+    → AreInOrder new.clauses assumed new.trail.steps
+order_after assumed old new clause put order =
+    subst (λ s. AreInOrder s.clauses assumed s.trail.steps) (sym put)
+    (order_with_clause old.clauses clause assumed old.trail.steps order)
+
+pub right_added : (meaning : Meaning) (followed : List Followed) (old new : Searched)
     (defined : List (List Lit)) (clause : List Lit) → IsRight meaning followed old defined
-    → IsReady new.store new.trail new.watches → new.store ≡ old.store ++ clause ∷ []
-    → new.trail ≡ old.trail
+    → new ≡ with_clause old clause
     → ((values : List Bool) → IsModelOf meaning defined values → HoldsIn values clause)
     → IsRight meaning followed new defined
-right_added meaning followed old new defined clause is ready store trail holds =
+right_added meaning followed old new defined clause is added holds =
     record {
-      ready = ready;
+      alive = ap (λ s. s.dead) added ∙ is.alive;
       holds =
           λ values model. subst (Meets values) (sym store)
-          (All-push (HoldsIn values) old.store clause (is.holds values model)
+          (All-push (HoldsIn values) old.clauses clause (is.holds values model)
           (holds values model));
       needed = more meaning.needs is.needed;
       kept = more defined is.kept;
       range =
-          let r = is.range in let same = ap (λ t. t.vars) trail in omega (arith, r, same);
-      follows = subst (λ t. AreFollowed t.steps followed) (sym trail) is.follows;
+          let r = is.range in let same = ap (λ s. s.trail.vars) added in omega (arith, r, same);
+      follows = subst (λ s. AreFollowed s.trail.steps followed) (sym added) is.follows;
     }
   where
-    more : (clauses : List (List Lit)) → AreMoreClauses clauses old.store
-        → AreMoreClauses clauses new.store
+    store : new.clauses ≡ old.clauses ++ clause ∷ []
+    store = ap (λ s. s.clauses) added
+
+    more : (clauses : List (List Lit)) → AreMoreClauses clauses old.clauses
+        → AreMoreClauses clauses new.clauses
     more clauses there =
         subst (AreMoreClauses clauses) (sym store)
-        (All-weaker (Contains old.store) (Contains (old.store ++ clause ∷ []))
-        (λ one here. Contains-append_left old.store (clause ∷ []) one here) clauses there)
+        (All-weaker (Contains old.clauses) (Contains (old.clauses ++ clause ∷ []))
+        (λ one here. Contains-append_left old.clauses (clause ∷ []) one here) clauses there)
 
 -- a selector is defined: its clause comes, to the clauses of the selectors too
-pub right_defined : (meaning : Meaning) (followed : List Followed) (old new : State)
+pub right_defined : (meaning : Meaning) (followed : List Followed) (old new : Searched)
     (was defined : List (List Lit)) (clause : List Lit) → IsRight meaning followed old was
-    → IsReady new.store new.trail new.watches → new.store ≡ old.store ++ clause ∷ []
-    → new.trail ≡ old.trail → defined ≡ was ++ clause ∷ []
+    → new ≡ with_clause old clause → defined ≡ was ++ clause ∷ []
     → IsRight meaning followed new defined
-right_defined meaning followed old new was defined clause is ready store trail more =
+right_defined meaning followed old new was defined clause is added more =
     record {
-      ready = ready;
+      alive = ap (λ s. s.dead) added ∙ is.alive;
       holds = λ values model. subst (Meets values) (sym store) (meets values model);
       needed =
           subst (AreMoreClauses meaning.needs) (sym store)
-          (All-weaker (Contains old.store) (Contains (old.store ++ clause ∷ []))
-          (λ one here. Contains-append_left old.store (clause ∷ []) one here) meaning.needs
+          (All-weaker (Contains old.clauses) (Contains (old.clauses ++ clause ∷ []))
+          (λ one here. Contains-append_left old.clauses (clause ∷ []) one here) meaning.needs
           is.needed);
       kept =
-          subst (λ d. AreMoreClauses d new.store) (sym more)
+          subst (λ d. AreMoreClauses d new.clauses) (sym more)
           (subst (AreMoreClauses (was ++ clause ∷ [])) (sym store)
-          (All-push (Contains (old.store ++ clause ∷ [])) was clause
-          (All-weaker (Contains old.store) (Contains (old.store ++ clause ∷ []))
-          (λ one here. Contains-append_left old.store (clause ∷ []) one here) was is.kept)
-          (Contains-push old.store clause)));
+          (All-push (Contains (old.clauses ++ clause ∷ [])) was clause
+          (All-weaker (Contains old.clauses) (Contains (old.clauses ++ clause ∷ []))
+          (λ one here. Contains-append_left old.clauses (clause ∷ []) one here) was is.kept)
+          (Contains-push old.clauses clause)));
       range =
-          let r = is.range in let same = ap (λ t. t.vars) trail in omega (arith, r, same);
-      follows = subst (λ t. AreFollowed t.steps followed) (sym trail) is.follows;
+          let r = is.range in let same = ap (λ s. s.trail.vars) added in omega (arith, r, same);
+      follows = subst (λ s. AreFollowed s.trail.steps followed) (sym added) is.follows;
     }
   where
+    store : new.clauses ≡ old.clauses ++ clause ∷ []
+    store = ap (λ s. s.clauses) added
+
     meets : (values : List Bool) → IsModelOf meaning defined values
-        → Meets values (old.store ++ clause ∷ [])
+        → Meets values (old.clauses ++ clause ∷ [])
     meets values model =
         let both : Meets values (was ++ clause ∷ []) = subst (Meets values) more model.meets in
         let first : Meets values was =
@@ -251,52 +300,65 @@ right_defined meaning followed old new was defined clause is ready store trail m
         let last : HoldsIn values clause =
         All-contains (HoldsIn values) (was ++ clause ∷ []) clause both
         (Contains-push was clause) in
-        All-push (HoldsIn values) old.store clause
+        All-push (HoldsIn values) old.clauses clause
         (is.holds values (record { model = model.model; meets = first })) last
 
 -- a clause is counted
-pub goes_on_counted : (meaning : Meaning) (assumed : List Lit) (old new : State)
-    (before after : Counted) (clause : List Lit) → IsNewWork old.store clause
-    → new.store ≡ old.store ++ clause ∷ [] → new.trail ≡ old.trail
+pub goes_on_counted : (meaning : Meaning) (assumed : List Lit) (old new : Searched)
+    (before after : Counted) (clause : List Lit) → IsNewWork old.clauses clause
+    → All (StandsIn old.clauses) clause → AreOpposed old.clauses assumed clause
+    → new ≡ with_clause old clause
     → after ≡ record before { units = before.units ++ clause ∷ [] }
     → GoesOn meaning assumed old new before after
-goes_on_counted meaning assumed old new before after clause work store trail counts =
+goes_on_counted meaning assumed old new before after clause work stand opposites put counts =
     record {
-      vars = ap (λ t. t.vars) trail;
+      vars = ap (λ s. s.trail.vars) put;
       added = counted clause ∷ [];
-      clauses = store;
+      clauses = ap (λ s. s.clauses) put;
       counts = counts;
       history = record { history = (work, tt); kind = All-nil meaning.may_give };
       are_units = (work.unit, tt);
-      first = λ first. subst (λ t. AreAssumedFirst assumed t.steps) (sym trail) first;
+      sided =
+          λ var is. sided_after meaning old new clause var put
+          (lacks_unnegated meaning.may_give old.clauses clause var stand is) is;
+      as_assumed =
+          All-cons (AreAsAssumed meaning.may_give old.clauses assumed) clause []
+          (learned_as_assumed meaning.may_give old.clauses assumed clause stand opposites)
+          (All-nil (AreAsAssumed meaning.may_give old.clauses assumed));
+      order = order_after assumed old new clause put;
     }
 
-pub counted_one : (meaning : Meaning) (followed : List Followed) (state : State)
-    (defined : List (List Lit)) (before after : Counted) (clause : List Lit)
-    → IsRight meaning followed state defined → IsNewWork state.store clause
+pub counted_one : (meaning : Meaning) (assumed : List Lit) (followed : List Followed)
+    (state : Searched) (defined : List (List Lit)) (before after : Counted) (clause : List Lit)
+    → IsRight meaning followed state defined → IsNewWork state.clauses clause
+    → All (StandsIn state.clauses) clause → AreOpposed state.clauses assumed clause
     → after ≡ record before { units = before.units ++ clause ∷ [] }
-    → HasCounted meaning defined state.store before after
-counted_one meaning followed state defined before after clause right work counts =
+    → HasCounted meaning assumed defined state.clauses before after
+counted_one meaning assumed followed state defined before after clause right work stand opposites
+    counts =
     record {
       units = clause ∷ [];
       counts = counts;
       are = (work.unit, tt);
       hold =
           λ values model. All-cons (HoldsIn values) clause []
-          (refuted_follows state.store clause work.refuted values (right.holds values model))
+          (refuted_follows state.clauses clause work.refuted values (right.holds values model))
           (All-nil (HoldsIn values));
+      sided =
+          All-cons (AreAsAssumed meaning.may_give state.clauses assumed) clause []
+          (learned_as_assumed meaning.may_give state.clauses assumed clause stand opposites)
+          (All-nil (AreAsAssumed meaning.may_give state.clauses assumed));
     }
 
 -- a clause is given
-pub goes_on_given : (meaning : Meaning) (assumed : List Lit) (old new : State)
-    (same : Counted) (clause : List Lit) → meaning.may_give clause → IsUnit old.store clause
-    → new.store ≡ old.store ++ clause ∷ [] → new.trail ≡ old.trail
-    → GoesOn meaning assumed old new same same
-goes_on_given meaning assumed old new same clause may unit store trail =
+pub goes_on_given : (meaning : Meaning) (assumed : List Lit) (old new : Searched)
+    (same : Counted) (clause : List Lit) → meaning.may_give clause → IsUnit old.clauses clause
+    → new ≡ with_clause old clause → GoesOn meaning assumed old new same same
+goes_on_given meaning assumed old new same clause may unit put =
     record {
-      vars = ap (λ t. t.vars) trail;
+      vars = ap (λ s. s.trail.vars) put;
       added = given clause ∷ [];
-      clauses = store;
+      clauses = ap (λ s. s.clauses) put;
       counts =
           ap (λ units. record same { units = units }) (sym (append-nil same.units));
       history =
@@ -305,7 +367,9 @@ goes_on_given meaning assumed old new same clause may unit store trail =
             kind = All-cons meaning.may_give clause [] may (All-nil meaning.may_give);
           };
       are_units = (unit, tt);
-      first = λ first. subst (λ t. AreAssumedFirst assumed t.steps) (sym trail) first;
+      sided = λ var is. sided_after meaning old new clause var put (is.not_given clause may) is;
+      as_assumed = All-nil (AreAsAssumed meaning.may_give old.clauses assumed);
+      order = order_after assumed old new clause put;
     }
 
 -- ---- answers of calls

@@ -1,3 +1,4 @@
+pub mod SidedLemmas
 pub mod SameLemmas
 pub mod ProgressLemmas
 pub mod GoingLemmas

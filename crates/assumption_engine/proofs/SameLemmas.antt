@@ -1,5 +1,5 @@
 -- What stays where a theory means the same.
-use Rattle.std.proofs.Common.{◌≡◌, Bool, ◌≤◌, List, [], ◌∷◌, ◌++◌, length, refl, sym, ap, ◌∙◌}
+use Rattle.std.proofs.Common.{◌≡◌, Bool, false, ◌≤◌, List, [], ◌∷◌, ◌++◌, length, refl, sym, ap, ◌∙◌}
 use Rattle.std.proofs.Common.{subst, arith, length-take}
 use Rattle.std.specs.Prelude.{map}
 use Rattle.std.proofs.lemmas.List.{length-map, take-append-le}
@@ -9,11 +9,9 @@ use Rattle.clause_store.specs.Clause.{Meets}
 use Rattle.clause_store.specs.Laws.{AreMoreClauses}
 use Rattle.clause_store.specs.Standing.{AreFollowed, Followed, as_followed}
 use Rattle.clause_store.specs.Trail.{Assigned}
-use Rattle.propagator.specs.Fixpoint.{Extends}
-use Rattle.propagator.specs.Watched.{IsReady}
 use Rattle.assumption_engine.specs.Theory.{IsGiven, Meaning, MeansTheSame}
-use Rattle.assumption_engine.specs.Engine.{IsModelOf, IsRight}
-use Rattle.assumption_engine.specs.declared.state.State.{State}
+use Rattle.assumption_engine.specs.Engine.{HasPropagated, IsModelOf, IsRight}
+use Rattle.search_state.specs.State.{Searched}
 
 pub same_itself : (meaning : Meaning) → MeansTheSame meaning meaning
 same_itself meaning =
@@ -60,20 +58,20 @@ model_back one two defined values same is =
     record { model = (same.models values).1 is.model; meets = is.meets }
 
 -- the engine is right with other assignments
-pub right_moved : (one two : Meaning) (before after : List Followed) (old new : State)
+pub right_moved : (one two : Meaning) (before after : List Followed) (old new : Searched)
     (defined : List (List Lit)) → MeansTheSame one two → IsRight one before old defined
-    → IsReady new.store new.trail new.watches → new.store ≡ old.store
+    → new.dead ≡ false → new.clauses ≡ old.clauses
     → new.trail.vars ≡ old.trail.vars → AreFollowed new.trail.steps after
     → IsRight two after new defined
-right_moved one two before after old new defined same is ready store vars follows =
+right_moved one two before after old new defined same is alive store vars follows =
     record {
-      ready = ready;
+      alive = alive;
       holds =
           λ values model. subst (Meets values) (sym store)
           (is.holds values (model_back one two defined values same model));
       needed =
           subst (AreMoreClauses two.needs) (sym store)
-          (subst (λ needs. AreMoreClauses needs old.store) same.needs is.needed);
+          (subst (λ needs. AreMoreClauses needs old.clauses) same.needs is.needed);
       kept = subst (AreMoreClauses defined) (sym store) is.kept;
       range = let g = same.greatest in let r = is.range in omega (arith, g, r, vars);
       follows = follows;
@@ -93,26 +91,31 @@ pub none_followed : (steps : List Step) (followed : List Followed) → followed 
 none_followed steps followed none =
     subst (AreFollowed steps) (sym none) refl
 
-pub right_extended : (meaning : Meaning) (followed : List Followed) (old new : State)
-    (defined : List (List Lit)) → IsRight meaning followed old defined
-    → IsReady new.store new.trail new.watches → new.store ≡ old.store
-    → Extends old.trail new.trail → IsRight meaning followed new defined
-right_extended meaning followed old new defined is ready store extends =
-    right_moved meaning meaning followed followed old new defined (same_itself meaning) is ready
-    store extends.vars
-    (subst (λ steps. AreFollowed steps followed) (sym extends.steps)
-    (followed_more old.trail.steps extends.added followed is.follows))
+-- the clauses were propagated
+pub right_propagated : {meaning : Meaning} {followed : List Followed} {old new : Searched}
+    {defined : List (List Lit)} → IsRight meaning followed old defined → HasPropagated old new
+    → IsRight meaning followed new defined
+right_propagated {meaning} {followed} {old} {new} {defined} is by =
+    right_moved meaning meaning followed followed old new defined (same_itself meaning) is
+    (by.dead ∙ is.alive) by.clauses by.extends.vars
+    (subst (λ steps. AreFollowed steps followed) (sym by.extends.steps)
+    (followed_more old.trail.steps by.extends.added followed is.follows))
+
+-- a state with an assignment put last
+abbrev pub pushed : Searched → Step → Searched
+pushed state step =
+    record state {
+      trail = record state.trail { steps = state.trail.steps ++ step ∷ [] };
+    }
 
 -- an assignment comes last
-pub right_pushed : (meaning : Meaning) (followed : List Followed) (old new : State)
+pub right_pushed : (meaning : Meaning) (followed : List Followed) (old new : Searched)
     (defined : List (List Lit)) (step : Step) → IsRight meaning followed old defined
-    → IsReady new.store new.trail new.watches → new.store ≡ old.store
-    → new.trail ≡ record old.trail { steps = old.trail.steps ++ step ∷ [] }
-    → IsRight meaning followed new defined
-right_pushed meaning followed old new defined step is ready store trail =
-    right_moved meaning meaning followed followed old new defined (same_itself meaning) is ready
-    store (ap (λ t. t.vars) trail)
-    (subst (λ t. AreFollowed t.steps followed) (sym trail)
+    → new ≡ pushed old step → IsRight meaning followed new defined
+right_pushed meaning followed old new defined step is set =
+    right_moved meaning meaning followed followed old new defined (same_itself meaning) is
+    (ap (λ s. s.dead) set ∙ is.alive) (ap (λ s. s.clauses) set) (ap (λ s. s.trail.vars) set)
+    (subst (λ s. AreFollowed s.trail.steps followed) (sym set)
     (followed_more old.trail.steps (step ∷ []) followed is.follows))
 
 -- what a theory gave it gives where it means the same

@@ -13,12 +13,12 @@ use Rattle.clause_store.proofs.lemmas.Units.RowLemmas.{units_are_few}
 use Rattle.clause_store.specs.Counted.{Counted}
 use Rattle.clause_store.specs.Entailment.{Absorbs, IsUnit}
 use Rattle.clause_store.specs.Trail.{Assigned, IsTrail, values_of}
-use Rattle.propagator.specs.Fixpoint.{Extends, IsFixpoint}
+use Rattle.propagator.specs.Fixpoint.{IsFixpoint}
 use Rattle.propagator.proofs.ClosureLemmas.{fixpoint_absorbs_no_unit}
 use Rattle.propagator.proofs.FalseLemmas.{fixpoint_absorbs_no_false}
 use Rattle.conflict_learning.specs.declared.learned.Learned.{Learned}
 use Rattle.assumption_engine.specs.Theory.{IsFalseOrForces, IsGiven, Meaning, MeansTheSame}
-use Rattle.assumption_engine.specs.Engine.{GoesOn, Taught}
+use Rattle.assumption_engine.specs.Engine.{GoesOn, HasPropagated, Taught}
 use Rattle.assumption_engine.specs.Answer.{HasEnded, HasGiven, HasTaken, IsAnswer, IsBelow}
 use Rattle.assumption_engine.specs.Answer.{IsCountedRight, IsStop}
 use Rattle.assumption_engine.specs.Answer.{IsEmptyCore, IsStopped, IsTurn}
@@ -29,14 +29,14 @@ use Rattle.assumption_engine.specs.declared.answer.Answer.TheVariants.{SpentInsi
 use Rattle.assumption_engine.specs.declared.answer.Answer.TheVariants.{NoMemory}
 use Rattle.assumption_engine.specs.declared.answer.Turn.{Turn}
 use Rattle.assumption_engine.specs.declared.answer.Turn.TheVariants.{Going, Ended}
-use Rattle.assumption_engine.specs.declared.state.State.{State}
+use Rattle.search_state.specs.State.{Searched}
 use Rattle.assumption_engine.proofs.ProgressLemmas.{weight_within}
 use Rattle.assumption_engine.proofs.SameLemmas.{model_back, model_same}
 use Rattle.assumption_engine.proofs.DownLemmas.{IsDown, weighs_more}
 
 -- an answer that came for having counted
 ended_stopped : (meaning : Meaning) (defined : List (List Lit)) (assumed : List Lit) (stop : ℕ)
-    (new : State) (after : Counted) (answer : Answer) → IsStopped stop after answer
+    (new : Searched) (after : Counted) (answer : Answer) → IsStopped stop after answer
     → HasEnded meaning defined assumed stop new after answer
 ended_stopped meaning defined assumed stop new after Model is = absurd is
 ended_stopped meaning defined assumed stop new after (Core core) is = absurd is
@@ -49,32 +49,32 @@ ended_stopped meaning defined assumed stop new after NoMemory is = absurd is
 
 -- a turn that took what was learned
 pub turn_taken : (meaning : Meaning) (defined : List (List Lit)) (assumed : List Lit) (stop : ℕ)
-    (old now back set new : State) (learned : Learned) (after : Counted) (turn : Turn)
-    → IsDown old now → Taught now back learned → set.store ≡ back.store
-    → Extends back.trail set.trail → new.trail ≡ set.trail
+    (old now back set new : Searched) (learned : Learned) (after : Counted) (turn : Turn)
+    → IsDown old now → Taught now back learned → HasPropagated back set
+    → new.trail ≡ set.trail
     → HasTaken stop set new learned.asserting after turn
     → IsTurn meaning defined assumed stop old new after turn
-turn_taken meaning defined assumed stop old now back set new learned after Going down is store
-    extends trail taken =
+turn_taken meaning defined assumed stop old now back set new learned after Going down is by
+    trail taken =
     record {
       below = taken.below;
       nearer =
           elim taken.taken [
             | inl longer ↦
-                let same : set.store ≡ old.store = store ∙ is.back.store ∙ down.store in
-                inl (subst (λ s. length s < length new.store) same longer)
+                let same : set.clauses ≡ old.clauses = by.clauses ∙ is.back.clauses ∙ down.clauses in
+                inl (subst (λ s. length s < length new.clauses) same longer)
             | inr assigned ↦
                 inr (record {
                   same =
-                      ap length (assigned.same ∙ store ∙ is.back.store ∙ down.store);
+                      ap length (assigned.same ∙ by.clauses ∙ is.back.clauses ∙ down.clauses);
                   more =
                       subst (λ t. weight old.trail < weight t) (sym trail)
-                      (weighs_more old now back set learned down is extends assigned.set);
+                      (weighs_more old now back set learned down is by.extends assigned.set);
                 })
           ];
     }
 turn_taken meaning defined assumed stop old now back set new learned after (Ended answer) down is
-    store extends trail taken =
+    by trail taken =
     ended_stopped meaning defined assumed stop new after answer taken
 
 -- ---- clauses that are given
@@ -92,7 +92,7 @@ given_is_unit meaning clauses trail clause is fixpoint given some =
 
 -- an empty core is one for all assumed literals, where a theory means the same
 ended_empty : (one two : Meaning) (defined : List (List Lit)) (assumed : List Lit) (stop : ℕ)
-    (new : State) (after : Counted) (answer : Answer) → MeansTheSame one two → IsBelow stop after
+    (new : Searched) (after : Counted) (answer : Answer) → MeansTheSame one two → IsBelow stop after
     → IsEmptyCore two defined answer → HasEnded one defined assumed stop new after answer
 ended_empty one two defined assumed stop new after Model same below is = absurd is
 ended_empty one two defined assumed stop new after (Core core) same below is =
@@ -113,7 +113,7 @@ ended_empty one two defined assumed stop new after Paused same below is = absurd
 ended_empty one two defined assumed stop new after NoMemory same below is = absurd is
 
 pub turn_given : (one two : Meaning) (defined : List (List Lit)) (assumed : List Lit) (stop : ℕ)
-    (old new : State) (after : Counted) (turn : Turn) → MeansTheSame one two → IsBelow stop after
+    (old new : Searched) (after : Counted) (turn : Turn) → MeansTheSame one two → IsBelow stop after
     → HasGiven two defined old new turn → IsTurn one defined assumed stop old new after turn
 turn_given one two defined assumed stop old new after Going same below is =
     record { nearer = inl is; below = below.before_stop }
@@ -155,8 +155,8 @@ answer_same one two defined assumed limit trail NoMemory same is = tt
 
 -- a turn from a state that is as near
 pub turn_then : (one two : Meaning) (defined : List (List Lit)) (assumed : List Lit) (stop : ℕ)
-    (old mid new : State) (after : Counted) (turn : Turn) → MeansTheSame one two
-    → mid.store ≡ old.store → weight old.trail ≤ weight mid.trail
+    (old mid new : Searched) (after : Counted) (turn : Turn) → MeansTheSame one two
+    → mid.clauses ≡ old.clauses → weight old.trail ≤ weight mid.trail
     → IsTurn two defined assumed stop mid new after turn
     → IsTurn one defined assumed stop old new after turn
 turn_then one two defined assumed stop old mid new after Going same store no_less is =
@@ -164,7 +164,7 @@ turn_then one two defined assumed stop old mid new after Going same store no_les
       below = is.below;
       nearer =
           elim is.nearer [
-            | inl longer ↦ inl (subst (λ s. length s < length new.store) store longer)
+            | inl longer ↦ inl (subst (λ s. length s < length new.clauses) store longer)
             | inr further ↦
                 inr (record {
                   same = further.same ∙ ap length store;
@@ -196,46 +196,46 @@ fewer_by_clause few many most less more fewer within =
     let one : (few + 1) * (most + 1) ≡ few * (most + 1) + (most + 1) = grind arith in
     omega (arith, all, one, within)
 
-pub fewer_turns : (full vars : ℕ) (old new : State) → IsTrail new.trail
-    → new.trail.vars ≡ vars → length new.store < full → IsNearer old new
-    → turns_left full (length new.store) vars (weight new.trail)
-    < turns_left full (length old.store) vars (weight old.trail)
+pub fewer_turns : (full vars : ℕ) (old new : Searched) → IsTrail new.trail
+    → new.trail.vars ≡ vars → length new.clauses < full → IsNearer old new
+    → turns_left full (length new.clauses) vars (weight new.trail)
+    < turns_left full (length old.clauses) vars (weight old.trail)
 fewer_turns full vars old new is same few (inl longer) =
-    fewer_by_clause (full - length new.store) (full - length old.store) (top vars)
+    fewer_by_clause (full - length new.clauses) (full - length old.clauses) (top vars)
     (top vars - weight new.trail) (top vars - weight old.trail) (omega arith) (omega arith)
 fewer_turns full vars old new is same few (inr further) =
     let within : weight new.trail ≤ top vars =
     subst (λ n. weight new.trail ≤ top n) same (weight_within new.trail is) in
     let less : top vars - weight new.trail < top vars - weight old.trail =
     omega (arith, within, further.more) in
-    let left : (full - length new.store) * (top vars + 1)
-    ≡ (full - length old.store) * (top vars + 1) =
+    let left : (full - length new.clauses) * (top vars + 1)
+    ≡ (full - length old.clauses) * (top vars + 1) =
     ap (λ n. (full - n) * (top vars + 1)) further.same in
     omega (arith, less, left)
 
 -- the clauses that came are few
-pub few_came : (meaning : Meaning) (assumed : List Lit) (old new : State) (before after : Counted)
-    (vars : ℕ) → GoesOn meaning assumed old new before after → AreOver new.trail.vars new.store
-    → new.trail.vars ≡ vars → length new.store < length old.store + 3 ^ vars
+pub few_came : (meaning : Meaning) (assumed : List Lit) (old new : Searched) (before after : Counted)
+    (vars : ℕ) → GoesOn meaning assumed old new before after → AreOver new.trail.vars new.clauses
+    → new.trail.vars ≡ vars → length new.clauses < length old.clauses + 3 ^ vars
 few_came meaning assumed old new before after vars on over same =
     let few : length (added_clauses on.added) < 3 ^ vars =
-    units_are_few vars old.store (added_clauses on.added)
+    units_are_few vars old.clauses (added_clauses on.added)
     (subst (λ n. AreOver n (added_clauses on.added)) same
-    (all_through (All (IsOver new.trail.vars)) (added_clauses on.added) new.store
+    (all_through (All (IsOver new.trail.vars)) (added_clauses on.added) new.clauses
     (subst (λ all. All (Contains all) (added_clauses on.added)) (sym on.clauses)
     (All-weaker (Contains (added_clauses on.added))
-    (Contains (old.store ++ added_clauses on.added))
-    (λ one here. Contains-append_right old.store (added_clauses on.added) one here)
+    (Contains (old.clauses ++ added_clauses on.added))
+    (λ one here. Contains-append_right old.clauses (added_clauses on.added) one here)
     (added_clauses on.added) (All-contains_itself (added_clauses on.added)))) over))
     on.are_units in
     let all = ap length on.clauses in
-    let sum = length-append old.store (added_clauses on.added) in
+    let sum = length-append old.clauses (added_clauses on.added) in
     omega (arith, few, all, sum)
 
 -- ---- the answer of a call
 
 pub ended_at_slice : (one two : Meaning) (defined : List (List Lit)) (assumed : List Lit)
-    (stop slice : ℕ) (new : State) (before after : Counted) (answer : Answer)
+    (stop slice : ℕ) (new : Searched) (before after : Counted) (answer : Answer)
     → MeansTheSame one two → IsStop slice before stop → after.limit ≡ before.limit
     → HasEnded two defined assumed stop new after answer
     → HasEnded one defined assumed (length before.units + slice) new after answer

@@ -7,8 +7,8 @@ use Rattle.clause_store.specs.declared.literal.Value.TheVariants.{Unset}
 use Rattle.clause_store.specs.Standing.{Followed}
 use Rattle.clause_store.specs.Trail.{Assigned, IsTotal, value_of, values_of}
 use Rattle.assumption_engine.specs.Theory.{Meaning, IsSpentCheck}
-use Rattle.search_state.specs.Assumed.{AreAssumedFirst}
 use Rattle.assumption_engine.specs.Engine.{GoesOn, IsModelOf, IsRight}
+use Rattle.assumption_engine.specs.Sided.{AreInOrder}
 use Rattle.assumption_engine.specs.Progress.{IsNearer}
 use Rattle.assumption_engine.specs.declared.answer.Answer.{Answer}
 use Rattle.assumption_engine.specs.declared.answer.Answer.TheVariants.{Model, Core, Spent}
@@ -16,7 +16,7 @@ use Rattle.assumption_engine.specs.declared.answer.Answer.TheVariants.{SpentInsi
 use Rattle.assumption_engine.specs.declared.answer.Answer.TheVariants.{NoMemory}
 use Rattle.assumption_engine.specs.declared.answer.Turn.{Turn}
 use Rattle.assumption_engine.specs.declared.answer.Turn.TheVariants.{Going, Ended}
-use Rattle.assumption_engine.specs.declared.state.State.{State}
+use Rattle.search_state.specs.State.{Searched}
 
 -- all variables are assigned, to a model of the engine that makes the assumed literals true
 pub record IsModelOn (meaning : Meaning) (defined : List (List Lit)) (assumed : List Lit)
@@ -73,18 +73,18 @@ IsCountedRight stop after NoMemory = ⊥
 
 -- a turn that ended with an answer
 pub record HasEnded (meaning : Meaning) (defined : List (List Lit)) (assumed : List Lit)
-    (stop : ℕ) (new : State) (after : Counted) (answer : Answer) : Type 0 where
+    (stop : ℕ) (new : Searched) (after : Counted) (answer : Answer) : Type 0 where
   pub says : IsAnswer meaning defined assumed after.limit new.trail answer
   pub counted : IsCountedRight stop after answer
 
 -- a turn after which there is more to do
-pub record IsGoing (stop : ℕ) (old new : State) (after : Counted) : Type 0 where
+pub record IsGoing (stop : ℕ) (old new : Searched) (after : Counted) : Type 0 where
   pub nearer : IsNearer old new
   pub below : length after.units < stop
 
 -- what each turn does
 abbrev pub IsTurn :
-    Meaning → List (List Lit) → List Lit → ℕ → State → State → Counted → Turn → Type 0
+    Meaning → List (List Lit) → List Lit → ℕ → Searched → Searched → Counted → Turn → Type 0
 IsTurn meaning defined assumed stop old new after Going = IsGoing stop old new after
 IsTurn meaning defined assumed stop old new after (Ended answer) =
     HasEnded meaning defined assumed stop new after answer
@@ -97,7 +97,7 @@ pub record HasRoom (stop : ℕ) (before : Counted) : Type 0 where
 -- a turn was taken: all is right after it, the search went on, and it does what it says
 pub record HasTurned (one two : Meaning) (followed : List Followed)
     (defined there : List (List Lit))
-    (assumed : List Lit) (stop : ℕ) (old new : State) (before after : Counted) (turn : Turn) :
+    (assumed : List Lit) (stop : ℕ) (old new : Searched) (before after : Counted) (turn : Turn) :
     Type 0 where
   pub right : IsRight two followed new there
   pub on : GoesOn one assumed old new before after
@@ -105,11 +105,11 @@ pub record HasTurned (one two : Meaning) (followed : List Followed)
 
 -- a turn may begin: all is right, the assumed literals are over the variables and come first, and
 -- one more clause may be counted
-pub record MayTurn (meaning : Meaning) (followed : List Followed) (state : State)
+pub record MayTurn (meaning : Meaning) (followed : List Followed) (state : Searched)
     (defined : List (List Lit)) (assumed : List Lit) (stop : ℕ) (before : Counted) : Type 0 where
   pub right : IsRight meaning followed state defined
   pub over : All (IsOver state.trail.vars) assumed
-  pub first : AreAssumedFirst assumed state.trail.steps
+  pub order : AreInOrder state.clauses assumed state.trail.steps
   pub room : HasRoom stop before
 
 -- the answers that come for having counted
@@ -127,17 +127,17 @@ IsStopping stop after Going = length after.units < stop
 IsStopping stop after (Ended answer) = IsStopped stop after answer
 
 -- a literal is assigned, and no clause came
-pub record IsSet (old new : State) (lit : Lit) : Type 0 where
+pub record IsSet (old new : Searched) (lit : Lit) : Type 0 where
   pub set : value_of old.trail.steps lit ≢ Unset
-  pub same : new.store ≡ old.store
+  pub same : new.clauses ≡ old.clauses
 
 -- a clause came, or its asserting literal is assigned
-pub record IsTaken (stop : ℕ) (old new : State) (asserting : Lit) (after : Counted) : Type 0 where
+pub record IsTaken (stop : ℕ) (old new : Searched) (asserting : Lit) (after : Counted) : Type 0 where
   pub below : length after.units < stop
-  pub taken : (length old.store < length new.store) ⊎ IsSet old new asserting
+  pub taken : (length old.clauses < length new.clauses) ⊎ IsSet old new asserting
 
 -- what came of a clause that was learned
-abbrev pub HasTaken : ℕ → State → State → Lit → Counted → Turn → Type 0
+abbrev pub HasTaken : ℕ → Searched → Searched → Lit → Counted → Turn → Type 0
 HasTaken stop old new asserting after Going = IsTaken stop old new asserting after
 HasTaken stop old new asserting after (Ended answer) = IsStopped stop after answer
 
@@ -152,8 +152,8 @@ IsEmptyCore meaning defined Paused = ⊥
 IsEmptyCore meaning defined NoMemory = ⊥
 
 -- what came of a clause that was given: it was put last, or it says that there is no model
-abbrev pub HasGiven : Meaning → List (List Lit) → State → State → Turn → Type 0
-HasGiven meaning defined old new Going = length old.store < length new.store
+abbrev pub HasGiven : Meaning → List (List Lit) → Searched → Searched → Turn → Type 0
+HasGiven meaning defined old new Going = length old.clauses < length new.clauses
 HasGiven meaning defined old new (Ended answer) = IsEmptyCore meaning defined answer
 
 -- how many clauses may be counted before a call ends: a slice more, within the limit

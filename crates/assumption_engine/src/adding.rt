@@ -27,44 +27,15 @@ impl<T: Theory> Engine<T> {
         ensures same { MeansTheSame (T.meaning self.old.theory) (T.meaning self.new.theory) }
         ensures defined { self.new.defined ≡ self.old.defined }
         ensures ok { OnOk result
-            (self.new.state.store ≡ self.old.state.store ++ lits.now ∷ []) }
+            (self.new.state.clauses ≡ self.old.state.clauses ++ lits.now ∷ []) }
         ensures back { OnOk result (self.new.state.trail
             ≡ record self.old.state.trail { steps = up_to 0 self.old.state.trail.steps }) }
         ensures alive { OnOk result (self.new.dead ≡ false) }
         ensures err { OnErr result (self.new.dead ≡ true) }
     {
-        if self.dead {
-            return Err(NoMemory);
-        }
-        self.go_back(0);
-        match self.put_last(alloc, lits) {
-            Ok(()) => Ok(()),
-            Err(_) => {
-                self.dead = true;
-                Err(NoMemory)
-            }
-        }
-    }
-
-    /// Puts a clause last that holds in all models.
-    fn put_last(&mut self, alloc: Global, lits: &[Lit]) -> Result<(), NoMemory>
-        requires right { IsRight (T.meaning self.old.theory) (T.followed self.old.theory)
-            self.old.state self.old.defined }
-        requires over { All (IsOver self.old.state.trail.vars) lits.now }
-        requires once { HasNoVariableTwice lits.now }
-        requires holds { (values : List Bool)
-            → IsModelOf (T.meaning self.old.theory) self.old.defined values
-            → HoldsIn values lits.now }
-        ensures right { OnOk result (IsRight (T.meaning self.new.theory)
-            (T.followed self.new.theory) self.new.state self.new.defined) }
-        ensures theory { self.new.theory ≡ self.old.theory }
-        ensures defined { self.new.defined ≡ self.old.defined }
-        ensures ok { OnOk result
-            (self.new.state.store ≡ self.old.state.store ++ lits.now ∷ []) }
-        ensures trail { self.new.state.trail ≡ self.old.state.trail }
-        ensures dead { self.new.dead ≡ self.old.dead }
-    {
+        self.begin()?;
         self.state.add(alloc, lits)?;
+        self.dead = false;
         Ok(())
     }
 }

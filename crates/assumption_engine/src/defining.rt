@@ -28,47 +28,19 @@ impl<T: Theory> Engine<T> {
         ensures same { MeansTheSame (T.meaning self.old.theory) (T.meaning self.new.theory) }
         ensures defined { OnOk result (self.new.defined
             ≡ self.old.defined ++ selector_clause selector.0 any.now ∷ []) }
-        ensures ok { OnOk result (self.new.state.store
-            ≡ self.old.state.store ++ selector_clause selector.0 any.now ∷ []) }
+        ensures ok { OnOk result (self.new.state.clauses
+            ≡ self.old.state.clauses ++ selector_clause selector.0 any.now ∷ []) }
         ensures back { OnOk result (self.new.state.trail
             ≡ record self.old.state.trail { steps = up_to 0 self.old.state.trail.steps }) }
         ensures alive { OnOk result (self.new.dead ≡ false) }
         ensures err { OnErr result (self.new.dead ≡ true) }
     {
-        if self.dead {
-            return Err(NoMemory);
-        }
-        self.go_back(0);
-        match self.put_selector(alloc, selector, any) {
-            Ok(()) => Ok(()),
-            Err(_) => {
-                self.dead = true;
-                Err(NoMemory)
-            }
-        }
-    }
-
-    /// Puts the clause of a selector last.
-    fn put_selector(&mut self, alloc: Global, selector: Var, any: &[Lit]) -> Result<(), NoMemory>
-        requires right { IsRight (T.meaning self.old.theory) (T.followed self.old.theory)
-            self.old.state self.old.defined }
-        requires over { All (IsOver self.old.state.trail.vars)
-            (selector_clause selector.0 any.now) }
-        requires once { HasNoVariableTwice (selector_clause selector.0 any.now) }
-        ensures right { OnOk result (IsRight (T.meaning self.new.theory)
-            (T.followed self.new.theory) self.new.state self.new.defined) }
-        ensures theory { self.new.theory ≡ self.old.theory }
-        ensures defined { OnOk result (self.new.defined
-            ≡ self.old.defined ++ selector_clause selector.0 any.now ∷ []) }
-        ensures ok { OnOk result (self.new.state.store
-            ≡ self.old.state.store ++ selector_clause selector.0 any.now ∷ []) }
-        ensures trail { self.new.state.trail ≡ self.old.state.trail }
-        ensures dead { self.new.dead ≡ self.old.dead }
-    {
-        let _vars = self.state.trail.vars();
+        self.begin()?;
+        let _vars = self.state.trail().vars();
         let clause = clause_of(alloc, selector, any)?;
         self.state.add(alloc, clause.as_slice())?;
         self.defined.push(alloc, clause)?;
+        self.dead = false;
         Ok(())
     }
 }

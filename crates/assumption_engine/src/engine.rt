@@ -1,22 +1,25 @@
 // An engine, and how it is opened.
-ghost use Rattle.std.specs.Prelude.{◌≡◌, ◌≤◌, ◌<◌, ◌^◌, [], Bool, List, false, IfOk};
+ghost use Rattle.std.specs.Prelude.{◌≡◌, ◌≤◌, ◌<◌, ◌^◌, [], Bool, List, false, true, IfOk};
+ghost use Rattle.std.specs.Prelude.{IfNone, IfSome, OnErr, OnOk};
 ghost use Rattle.clause_store.specs.Clause.{AreOver, Meets};
 ghost use Rattle.clause_store.specs.Laws.{AreMoreClauses};
+ghost use Rattle.clause_store.specs.Standing.{IsConflict};
 ghost use Rattle.clause_store.specs.Trail.{present_level};
+ghost use Rattle.propagator.specs.Fixpoint.{IsFixpoint};
 ghost use Rattle.assumption_engine.specs.Theory.{MeansTheSame};
-ghost use Rattle.assumption_engine.specs.Engine.{IsRight, WentBack};
+ghost use Rattle.assumption_engine.specs.Engine.{HasPropagated, IsRight, WentBack};
 
-use crate::state::State;
 use crate::theory::Theory;
-use clause_store::{Clause, Store, Trail, Units};
+use clause_store::{Clause, ClauseRef, Store, Trail, Units};
 use conflict_learning::Learned;
 use item_list::NoMemory;
+use search_state::SearchState;
 use std::alloc::Global;
 
 /// A search over a theory, which keeps its clauses and its trail from one question to the next.
 #[derive(Drop)]
 pub struct Engine<T> {
-    pub(crate) state: State,
+    pub(crate) state: SearchState,
     pub(crate) theory: T,
     pub(crate) learned: Learned,
     pub(crate) given: Clause,
@@ -37,12 +40,12 @@ impl<T: Theory> Engine<T> {
         ensures right { IfOk result
             (λ it. IsRight (T.meaning it.theory) (T.followed it.theory) it.state it.defined) }
         ensures theory { IfOk result (λ it. it.theory ≡ theory) }
-        ensures store { IfOk result (λ it. it.state.store ≡ store) }
+        ensures store { IfOk result (λ it. it.state.clauses ≡ store) }
         ensures trail { IfOk result (λ it. it.state.trail ≡ record { vars = vars; steps = [] }) }
         ensures defined { IfOk result (λ it. it.defined ≡ []) }
         ensures alive { IfOk result (λ it. it.dead ≡ false) }
     {
-        let state = State::open(alloc, vars, store)?;
+        let state = SearchState::open(alloc, vars, store)?;
         Ok(Engine {
             state,
             theory,
@@ -57,14 +60,14 @@ impl<T: Theory> Engine<T> {
     pub fn trail(&self) -> &Trail
         ensures { result.now ≡ self.now.state.trail }
     {
-        &self.state.trail
+        self.state.trail()
     }
 
     /// The clauses.
     pub fn store(&self) -> &Store
-        ensures { result.now ≡ self.now.state.store }
+        ensures { result.now ≡ self.now.state.clauses }
     {
-        &self.state.store
+        self.state.store()
     }
 
     /// Goes back to a level, and the theory with it.
@@ -80,7 +83,43 @@ impl<T: Theory> Engine<T> {
         ensures defined { self.new.defined ≡ self.old.defined }
         ensures dead { self.new.dead ≡ self.old.dead }
     {
-        self.state.go_back(level);
-        self.theory.undo(&self.state.trail);
+        self.state.vouch();
+        self.state.back_to(level);
+        self.theory.undo(self.state.trail());
     }
+
+    /// Goes back to level 0, or says that memory ran out before. The engine is dead until its
+    /// caller is done.
+    pub(crate) fn begin(&mut self) -> Result<(), NoMemory>
+        requires right { self.old.dead ≡ false → IsRight (T.meaning self.old.theory)
+            (T.followed self.old.theory) self.old.state self.old.defined }
+        ensures right { OnOk result (IsRight (T.meaning self.new.theory)
+            (T.followed self.new.theory) self.new.state self.new.defined) }
+        ensures same { MeansTheSame (T.meaning self.old.theory) (T.meaning self.new.theory) }
+        ensures back { OnOk result (WentBack 0 self.old.state self.new.state) }
+        ensures clauses { self.new.state.clauses ≡ self.old.state.clauses }
+        ensures defined { self.new.defined ≡ self.old.defined }
+        ensures alive { OnOk result (self.old.dead ≡ false) }
+        ensures err { OnErr result (self.old.dead ≡ true) }
+        ensures dead { self.new.dead ≡ true }
+    {
+        if self.dead {
+            return Err(NoMemory);
+        }
+        self.dead = true;
+        self.go_back(0);
+        Ok(())
+    }
+}
+
+/// Assigns what the clauses force. The answer is a clause that is false, if there is one then.
+pub(crate) fn propagate(state: &mut SearchState) -> Option<ClauseRef>
+    requires alive { state.old.dead ≡ false }
+    ensures none { IfNone result (IsFixpoint state.new.clauses state.new.trail.steps) }
+    ensures some { IfSome result (IsConflict state.new.clauses state.new.trail.steps) }
+    ensures propagated { HasPropagated state.old state.new }
+{
+    let conflict = state.propagate();
+    state.vouch();
+    conflict
 }

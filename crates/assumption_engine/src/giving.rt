@@ -11,7 +11,6 @@ ghost use Rattle.assumption_engine.specs.Answer.{HasGiven};
 
 use crate::answer::{Answer, Turn};
 use crate::engine::Engine;
-use crate::state::know_trail;
 use crate::theory::Theory;
 use clause_store::{Clause, Lit, Trail};
 use item_list::NoMemory;
@@ -24,7 +23,7 @@ impl<T: Theory> Engine<T> {
         requires right { IsRight (T.meaning self.old.theory) (T.followed self.old.theory)
             self.old.state self.old.defined }
         requires given { IsGiven (T.meaning self.old.theory) self.old.state.trail self.old.given }
-        requires fixpoint { IsFixpoint self.old.state.store self.old.state.trail.steps }
+        requires fixpoint { IsFixpoint self.old.state.clauses self.old.state.trail.steps }
         ensures right { OnOk result (IsRight (T.meaning self.new.theory)
             (T.followed self.new.theory) self.new.state self.new.defined) }
         ensures same { MeansTheSame (T.meaning self.old.theory) (T.meaning self.new.theory) }
@@ -33,13 +32,14 @@ impl<T: Theory> Engine<T> {
             (T.meaning self.old.theory) assumed self.old.state self.new.state counted counted) }
         ensures turn { IfOk result (HasGiven (T.meaning self.old.theory) self.old.defined
             self.old.state self.new.state) }
+        ensures dead { self.new.dead ≡ self.old.dead }
     {
-        know_trail(&self.state.trail);
+        self.state.vouch();
         if self.given.len() == 0 {
             return Ok(Turn::Ended(Answer::Core(Clause::open())));
         }
         self.state.add(alloc, self.given.as_slice())?;
-        let level = acting_level(&self.state.trail, self.given.as_slice());
+        let level = acting_level(self.state.trail(), self.given.as_slice());
         self.go_back(level);
         Ok(Turn::Going)
     }

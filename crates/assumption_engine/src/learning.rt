@@ -6,11 +6,11 @@ ghost use Rattle.propagator.specs.Fixpoint.{IsFixpoint};
 ghost use Rattle.assumption_engine.specs.Theory.{MeansTheSame};
 ghost use Rattle.assumption_engine.specs.Engine.{GoesOn, HasCounted, IsLearned, IsRight, Taught};
 ghost use Rattle.assumption_engine.specs.Engine.{IsLevelOf};
+ghost use Rattle.assumption_engine.specs.Sided.{AreInOrder, AreOpposed};
 ghost use Rattle.assumption_engine.specs.Answer.{HasRoom, HasTaken, IsStopping, IsTurn};
 
 use crate::answer::{Answer, Turn};
-use crate::engine::Engine;
-use crate::state::know_trail;
+use crate::engine::{Engine, propagate};
 use crate::theory::Theory;
 use clause_store::{Budget, Clause, ClauseRef, Value};
 use conflict_learning::{analyse, greatest_level};
@@ -29,29 +29,34 @@ impl<T: Theory> Engine<T> {
     ) -> Result<Turn, NoMemory>
         requires right { IsRight (T.meaning self.old.theory) (T.followed self.old.theory)
             self.old.state self.old.defined }
-        requires conflict { IsConflict self.old.state.store self.old.state.trail.steps conflict }
+        requires conflict { IsConflict self.old.state.clauses self.old.state.trail.steps conflict }
         requires room { HasRoom stop budget.old }
         ensures right { OnOk result (IsRight (T.meaning self.new.theory)
             (T.followed self.new.theory) self.new.state self.new.defined) }
         ensures same { MeansTheSame (T.meaning self.old.theory) (T.meaning self.new.theory) }
         ensures defined { self.new.defined ≡ self.old.defined }
-        ensures on { OnOk result ((assumed : List Lit) → GoesOn (T.meaning self.old.theory)
+        ensures on { OnOk result ((assumed : List Lit)
+            → AreInOrder self.old.state.clauses assumed self.old.state.trail.steps
+            → GoesOn (T.meaning self.old.theory)
             assumed self.old.state self.new.state budget.old budget.new) }
-        ensures counted { HasCounted (T.meaning self.old.theory) self.old.defined
-            self.old.state.store budget.old budget.new }
+        ensures counted { (assumed : List Lit)
+            → AreInOrder self.old.state.clauses assumed self.old.state.trail.steps
+            → HasCounted (T.meaning self.old.theory) assumed self.old.defined
+            self.old.state.clauses budget.old budget.new }
         ensures turn { IfOk result (λ turn. (assumed : List Lit) → IsTurn
             (T.meaning self.old.theory) self.old.defined assumed stop self.old.state
             self.new.state budget.new turn) }
+        ensures dead { self.new.dead ≡ self.old.dead }
     {
-        know_trail(&self.state.trail);
         let mut conflict = conflict;
+        self.state.vouch();
         'conflicts: loop {
-            let level = greatest_level(&self.state.trail, self.state.store.lits(conflict));
+            let level = greatest_level(self.state.trail(), self.state.store().lits(conflict));
             if level == 0 {
                 return Ok(Turn::Ended(Answer::Core(Clause::open())));
             }
             self.resolve(alloc, conflict, level)?;
-            match self.state.propagate() {
+            match propagate(&mut self.state) {
                 Some(next) => conflict = next,
                 None => return self.take_learned(alloc, budget, stop),
             }
@@ -63,7 +68,7 @@ impl<T: Theory> Engine<T> {
     fn resolve(&mut self, alloc: Global, conflict: ClauseRef, level: u32) -> Result<(), NoMemory>
         requires right { IsRight (T.meaning self.old.theory) (T.followed self.old.theory)
             self.old.state self.old.defined }
-        requires conflict { IsConflict self.old.state.store self.old.state.trail.steps conflict }
+        requires conflict { IsConflict self.old.state.clauses self.old.state.trail.steps conflict }
         requires level { IsLevelOf self.old.state conflict level }
         requires above { 0 < level }
         ensures right { IsRight (T.meaning self.new.theory) (T.followed self.new.theory)
@@ -71,12 +76,13 @@ impl<T: Theory> Engine<T> {
         ensures same { MeansTheSame (T.meaning self.old.theory) (T.meaning self.new.theory) }
         ensures defined { self.new.defined ≡ self.old.defined }
         ensures taught { OnOk result (Taught self.old.state self.new.state self.new.learned) }
+        ensures dead { self.new.dead ≡ self.old.dead }
     {
         self.go_back(level);
         analyse(
             alloc,
-            &self.state.store,
-            &self.state.trail,
+            self.state.store(),
+            self.state.trail(),
             conflict,
             &mut self.learned,
         )?;
@@ -93,8 +99,8 @@ impl<T: Theory> Engine<T> {
     ) -> Result<Turn, NoMemory>
         requires right { IsRight (T.meaning self.old.theory) (T.followed self.old.theory)
             self.old.state self.old.defined }
-        requires fixpoint { IsFixpoint self.old.state.store self.old.state.trail.steps }
-        requires learned { IsLearned self.old.state.store self.old.state.trail
+        requires fixpoint { IsFixpoint self.old.state.clauses self.old.state.trail.steps }
+        requires learned { IsLearned self.old.state.clauses self.old.state.trail
             self.old.learned.clause self.old.learned.asserting }
         requires room { HasRoom stop budget.old }
         ensures right { OnOk result (IsRight (T.meaning self.new.theory)
@@ -102,16 +108,20 @@ impl<T: Theory> Engine<T> {
         ensures theory { self.new.theory ≡ self.old.theory }
         ensures defined { self.new.defined ≡ self.old.defined }
         ensures trail { self.new.state.trail ≡ self.old.state.trail }
-        ensures on { OnOk result ((assumed : List Lit) → GoesOn (T.meaning self.old.theory)
+        ensures on { OnOk result ((assumed : List Lit)
+            → AreOpposed self.old.state.clauses assumed self.old.learned.clause
+            → GoesOn (T.meaning self.old.theory)
             assumed self.old.state self.new.state budget.old budget.new) }
-        ensures counted { HasCounted (T.meaning self.old.theory) self.old.defined
-            self.old.state.store budget.old budget.new }
+        ensures counted { (assumed : List Lit)
+            → AreOpposed self.old.state.clauses assumed self.old.learned.clause
+            → HasCounted (T.meaning self.old.theory) assumed self.old.defined
+            self.old.state.clauses budget.old budget.new }
         ensures turn { IfOk result (HasTaken stop self.old.state self.new.state
             self.old.learned.asserting budget.new) }
+        ensures dead { self.new.dead ≡ self.old.dead }
     {
-        match self.state.trail.value(self.learned.asserting) {
+        match self.state.trail().value(self.learned.asserting) {
             Value::Unset => {
-                know_trail(&self.state.trail);
                 budget.count(alloc, self.learned.clause.as_slice())?;
                 self.state.add(alloc, self.learned.clause.as_slice())?;
                 Ok(turn_after(budget, stop))

@@ -10,8 +10,9 @@ mod defining;
 mod engine;
 mod giving;
 mod learning;
-mod state;
+mod task;
 mod theory;
+mod turning;
 
 pub use answer::{Answer, Turn};
 pub use check::Check;

@@ -1,6 +1,6 @@
 use Rattle.std.proofs.Common.{◌≡◌}
 use Rattle.clause_store.specs.Standing.{IsConflict}
-use Rattle.clause_store.specs.Trail.{present_level}
+use Rattle.clause_store.specs.Trail.{IsTrailOf, present_level}
 use Rattle.assumption_engine.specs.Theory.{MeansTheSame}
 use Rattle.assumption_engine.specs.Engine.{IsRight}
 use Rattle.assumption_engine.proofs.DownLemmas.{IsDown}
@@ -12,9 +12,11 @@ invariant-conflicts g l = record {
       l.self.state l.self.defined;
   same : MeansTheSame (g.T.Theory.meaning l.fn.self.theory) (g.T.Theory.meaning l.self.theory);
   defined : l.self.defined ≡ l.fn.self.defined;
+  dead : l.self.dead ≡ l.fn.self.dead;
   budget : l.budget ≡ l.fn.budget;
-  conflict : IsConflict l.self.state.store l.self.state.trail.steps l.conflict;
+  conflict : IsConflict l.self.state.clauses l.self.state.trail.steps l.conflict;
   down : IsDown l.fn.self.state l.self.state;
+  of_store : IsTrailOf l.self.state.trail.steps l.self.state.clauses;
 }
 
 abbrev pub decreases-conflicts : goal.decreases-conflicts

@@ -9,18 +9,18 @@ use Rattle.assumption_engine.proofs.engine.Engine.open.Goals as goal
 pub returns-clause-right : goal.returns-clause-right
 returns-clause-right g c =
     record {
-      ready = c.in_ok-state.ensures.ready;
+      alive = ap (λ s. s.dead) c.in_ok-state.ensures;
       holds =
-          λ values model. subst (Meets values) (sym c.in_ok-state.ensures.store)
+          λ values model. subst (λ s. Meets values s.clauses) (sym c.in_ok-state.ensures)
           (c.requires.holds values model.model);
       needed =
-          subst (AreMoreClauses (g.T.Theory.meaning c.args.theory).needs)
-          (sym c.in_ok-state.ensures.store) c.requires.needs;
+          subst (λ s. AreMoreClauses (g.T.Theory.meaning c.args.theory).needs s.clauses)
+          (sym c.in_ok-state.ensures) c.requires.needs;
       kept =
-          subst (λ defined. AreMoreClauses defined c.in_ok-state.state.store)
-          (sym c.open-4.ensures) (All-nil (Contains c.in_ok-state.state.store));
+          subst (λ defined. AreMoreClauses defined c.in_ok-state.state.clauses)
+          (sym c.open-4.ensures) (All-nil (Contains c.in_ok-state.state.clauses));
       range =
-          let vars = ap (λ t. t.vars) c.in_ok-state.ensures.trail in
+          let vars = ap (λ s. s.trail.vars) c.in_ok-state.ensures in
           omega (arith, vars, c.requires.range);
       follows =
           none_followed c.in_ok-state.state.trail.steps (g.T.Theory.followed c.args.theory)

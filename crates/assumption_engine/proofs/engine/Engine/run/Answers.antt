@@ -17,7 +17,7 @@ turn-requires g c =
             over =
                 subst (λ n. All (IsOver n) c.args.assumed.now) (sym c.turns.invariant.on.vars)
                 c.requires.may.over;
-            first = c.turns.invariant.on.first c.requires.may.first;
+            order = c.turns.invariant.on.order c.requires.may.order;
             room = c.turns.invariant.room;
           };
     }
@@ -36,12 +36,12 @@ turns-smaller g c =
     (IsTurn (g.T.Theory.meaning c.turns.self.theory) c.turns.self.defined c.args.assumed.now
     c.args.stop c.turns.self.state c.turn.new.self.state c.turn.new.budget) c.in-Going.is
     c.in_ok-turn.ensures.turn.does in
-    fewer_turns (length c.args.self.now.state.store + 3 ^ c.args.self.now.state.trail.vars)
+    fewer_turns (length c.args.self.now.state.clauses + 3 ^ c.args.self.now.state.trail.vars)
     c.args.self.now.state.trail.vars c.turns.self.state c.turn.new.self.state
-    c.know_trail.ensures on.vars
+    c.vouch.ensures.is_trail on.vars
     (few_came (g.T.Theory.meaning c.args.self.now.theory) c.args.assumed.now
     c.args.self.now.state c.turn.new.self.state c.args.budget.now c.turn.new.budget
-    c.args.self.now.state.trail.vars on c.in_ok-turn.ensures.turn.right.ready.over on.vars)
+    c.args.self.now.state.trail.vars on c.vouch.ensures.over on.vars)
     going.nearer
 
 pub turns-preserved : goal.turns-preserved
@@ -59,6 +59,7 @@ turns-preserved g c =
           (g.T.Theory.meaning c.turns.self.theory) (g.T.Theory.meaning c.turn.new.self.theory)
           c.turns.invariant.same c.turn.ensures.same;
       defined = c.turn.ensures.defined ∙ c.turns.invariant.defined;
+      dead = c.turn.ensures.dead ∙ c.turns.invariant.dead;
       on =
           on_then c.turns.invariant.same c.turns.invariant.on c.in_ok-turn.ensures.turn.on;
       room =

@@ -12,6 +12,7 @@ invariant-turns g l = record {
       l.self.state l.self.defined;
   same : MeansTheSame (g.T.Theory.meaning l.fn.self.theory) (g.T.Theory.meaning l.self.theory);
   defined : l.self.defined ≡ l.fn.self.defined;
+  dead : l.self.dead ≡ l.fn.self.dead;
   on : GoesOn (g.T.Theory.meaning l.fn.self.theory) l.assumed l.fn.self.state l.self.state
       l.fn.budget l.budget;
   room : HasRoom l.stop l.budget;
@@ -19,5 +20,5 @@ invariant-turns g l = record {
 
 abbrev pub decreases-turns : goal.decreases-turns
 decreases-turns g l =
-    turns_left (length l.fn.self.state.store + 3 ^ l.fn.self.state.trail.vars)
-    (length l.self.state.store) l.fn.self.state.trail.vars (weight l.self.state.trail)
+    turns_left (length l.fn.self.state.clauses + 3 ^ l.fn.self.state.trail.vars)
+    (length l.self.state.clauses) l.fn.self.state.trail.vars (weight l.self.state.trail)

@@ -1,80 +1,158 @@
-use Rattle.std.proofs.Common.{refl, subst, sym}
-use Rattle.std.specs.Prelude.{All}
+use Rattle.std.proofs.Common.{refl, subst}
+use Rattle.std.proofs.lemmas.List.Elements.{All-contains}
 use Rattle.clause_store.specs.Clause.{IsOver}
-use Rattle.assumption_engine.proofs.GoingLemmas.{counted_none, counted_then}
-use Rattle.assumption_engine.proofs.SameLemmas.{right_extended, same_itself}
-use Rattle.assumption_engine.proofs.StepLemmas.{goes_on_extended, turned_learned, turned_then}
-use Rattle.assumption_engine.proofs.StepLemmas.{weight_extended}
-use Rattle.search_state.proofs.AssumedLemmas.{first_extended}
+use Rattle.assumption_engine.specs.Task.{IsTask, MayDecide, MustRefuse}
+use Rattle.assumption_engine.specs.declared.answer.Answer.TheVariants.{Core}
+use Rattle.assumption_engine.specs.declared.answer.Turn.TheVariants.{Going, Ended}
+use Rattle.assumption_engine.proofs.AnswerLemmas.{core_of, room_below}
+use Rattle.assumption_engine.proofs.GoingLemmas.{counted_none}
+use Rattle.assumption_engine.proofs.SameLemmas.{same_itself, same_then}
+use Rattle.assumption_engine.proofs.StepLemmas.{counted_on, goes_on_propagated, may_turn_on}
+use Rattle.assumption_engine.proofs.StepLemmas.{order_propagated, turned_decided, turned_given}
+use Rattle.assumption_engine.proofs.StepLemmas.{if_turned_on, turned_learned, turned_on, turned_still}
 use Rattle.assumption_engine.proofs.engine.Engine.turn.Goals as goal
 
-pub learn_from-requires-clause-right : goal.learn_from-requires-clause-right
-learn_from-requires-clause-right g c =
-    right_extended (g.T.Theory.meaning c.args.self.now.theory)
-    (g.T.Theory.followed c.args.self.now.theory) c.args.self.now.state c.propagate.new.self
-    c.args.self.now.defined c.requires.may.right c.propagate.ensures.ready c.propagate.ensures.store
-    c.propagate.ensures.extends
+pub returns-in_err-conflict-clause-counted : goal.returns-in_err-conflict-clause-counted
+returns-in_err-conflict-clause-counted g c =
+    counted_none (g.T.Theory.meaning c.args.self.now.theory) c.args.assumed.now
+    c.args.self.now.defined c.args.self.now.state.clauses c.args.budget.now c.args.budget.now refl
 
-pub returns-in-Some-clause-counted : goal.returns-in-Some-clause-counted
-returns-in-Some-clause-counted g c =
-    counted_then (g.T.Theory.meaning c.args.self.now.theory)
-    (g.T.Theory.meaning c.args.self.now.theory) (g.T.Theory.followed c.args.self.now.theory)
-    c.args.self.now.defined c.args.assumed.now c.args.self.now.state c.propagate.new.self
-    c.args.budget.now c.args.budget.now c.learn_from.new.budget
-    (same_itself (g.T.Theory.meaning c.args.self.now.theory))
-    (right_extended (g.T.Theory.meaning c.args.self.now.theory)
-    (g.T.Theory.followed c.args.self.now.theory) c.args.self.now.state c.propagate.new.self
-    c.args.self.now.defined c.requires.may.right c.propagate.ensures.ready c.propagate.ensures.store
-    c.propagate.ensures.extends)
-    (goes_on_extended c.propagate.ensures.store c.propagate.ensures.extends)
-    c.learn_from.ensures.counted
+pub returns-in-Learn-clause-same : goal.returns-in-Learn-clause-same
+returns-in-Learn-clause-same g c =
+    same_then (g.T.Theory.meaning c.args.self.now.theory)
+    (g.T.Theory.meaning c.next_task.new.self.theory) (g.T.Theory.meaning c.learn_from.new.self.theory)
+    c.next_task.ensures.same c.learn_from.ensures.same
 
-pub returns-in-Some-clause-turn : goal.returns-in-Some-clause-turn
-returns-in-Some-clause-turn g c =
-    turned_then (g.T.Theory.meaning c.learn_from.new.self.theory)
-    (g.T.Theory.followed c.learn_from.new.self.theory) c.args.self.now.defined
-    c.learn_from.new.self.defined c.args.stop
-    c.learn_from.new.self.state c.learn_from.new.budget c.learn_from.result
-    (same_itself (g.T.Theory.meaning c.args.self.now.theory))
-    c.propagate.ensures.store (weight_extended c.propagate.ensures.extends)
-    (goes_on_extended c.propagate.ensures.store c.propagate.ensures.extends)
-    (turned_learned (g.T.Theory.meaning c.args.self.now.theory)
+pub returns-in-Learn-clause-counted : goal.returns-in-Learn-clause-counted
+returns-in-Learn-clause-counted g c =
+    counted_on c.next_task.ensures.defined c.next_task.ensures.same
+    c.in_ok-conflict.ensures.right (goes_on_propagated c.next_task.ensures.propagated)
+    (c.learn_from.ensures.counted c.args.assumed.now
+    (order_propagated c.next_task.ensures.propagated c.requires.may.order))
+
+pub returns-in-Learn-clause-turn : goal.returns-in-Learn-clause-turn
+returns-in-Learn-clause-turn g c =
+    if_turned_on (g.T.Theory.meaning c.learn_from.new.self.theory) (g.T.Theory.followed c.learn_from.new.self.theory)
+    c.learn_from.new.self.defined c.args.assumed.now c.args.stop c.learn_from.new.self.state c.args.budget.now c.learn_from.new.budget
+    c.learn_from.result c.next_task.ensures.same c.next_task.ensures.defined
+    c.next_task.ensures.propagated
+    (turned_learned (g.T.Theory.meaning c.next_task.new.self.theory)
     (g.T.Theory.meaning c.learn_from.new.self.theory)
-    (g.T.Theory.followed c.learn_from.new.self.theory) c.args.self.now.defined
-    c.learn_from.new.self.defined c.args.assumed.now c.args.stop
-    c.propagate.new.self c.learn_from.new.self.state c.args.budget.now c.learn_from.new.budget
-    c.learn_from.result c.learn_from.ensures.right c.learn_from.ensures.on
+    (g.T.Theory.followed c.learn_from.new.self.theory) c.next_task.new.self.defined
+    c.learn_from.new.self.defined c.args.assumed.now c.args.stop c.next_task.new.self.state
+    c.learn_from.new.self.state c.args.budget.now c.learn_from.new.budget c.learn_from.result
+    c.learn_from.ensures.right c.learn_from.ensures.on
+    (order_propagated c.next_task.ensures.propagated c.requires.may.order)
     c.learn_from.ensures.turn)
 
-pub ask_theory-requires-clause-may : goal.ask_theory-requires-clause-may
-ask_theory-requires-clause-may g c =
-    record {
-      right =
-          right_extended (g.T.Theory.meaning c.args.self.now.theory)
-          (g.T.Theory.followed c.args.self.now.theory) c.args.self.now.state c.propagate.new.self
-          c.args.self.now.defined c.requires.may.right c.propagate.ensures.ready
-          c.propagate.ensures.store c.propagate.ensures.extends;
-      over =
-          subst (λ n. All (IsOver n) c.args.assumed.now) (sym c.propagate.ensures.extends.vars)
-          c.requires.may.over;
-      first =
-          first_extended c.args.assumed.now c.args.self.now.state.trail c.propagate.new.self.trail
-          c.propagate.ensures.extends c.requires.may.first;
-      room = c.requires.may.room;
-    }
+pub returns-in-Take-clause-same : goal.returns-in-Take-clause-same
+returns-in-Take-clause-same g c =
+    same_then (g.T.Theory.meaning c.args.self.now.theory)
+    (g.T.Theory.meaning c.next_task.new.self.theory) (g.T.Theory.meaning c.take_given.new.self.theory)
+    c.next_task.ensures.same c.take_given.ensures.same
 
-pub returns-in-None-clause-counted : goal.returns-in-None-clause-counted
-returns-in-None-clause-counted g c =
-    counted_none (g.T.Theory.meaning c.args.self.now.theory) c.args.self.now.defined
-    c.args.self.now.state.store c.args.budget.now c.args.budget.now refl
+pub returns-in-Take-clause-counted : goal.returns-in-Take-clause-counted
+returns-in-Take-clause-counted g c =
+    counted_none (g.T.Theory.meaning c.args.self.now.theory) c.args.assumed.now
+    c.args.self.now.defined c.args.self.now.state.clauses c.args.budget.now c.args.budget.now refl
 
-pub returns-in-None-clause-turn : goal.returns-in-None-clause-turn
-returns-in-None-clause-turn g c =
-    turned_then (g.T.Theory.meaning c.ask_theory.new.self.theory)
-    (g.T.Theory.followed c.ask_theory.new.self.theory) c.args.self.now.defined
-    c.ask_theory.new.self.defined c.args.stop
-    c.ask_theory.new.self.state c.args.budget.now c.ask_theory.result
-    (same_itself (g.T.Theory.meaning c.args.self.now.theory))
-    c.propagate.ensures.store (weight_extended c.propagate.ensures.extends)
-    (goes_on_extended c.propagate.ensures.store c.propagate.ensures.extends)
-    c.ask_theory.ensures.turn
+pub returns-in-Take-clause-turn : goal.returns-in-Take-clause-turn
+returns-in-Take-clause-turn g c =
+    if_turned_on (g.T.Theory.meaning c.take_given.new.self.theory) (g.T.Theory.followed c.take_given.new.self.theory)
+    c.take_given.new.self.defined c.args.assumed.now c.args.stop c.take_given.new.self.state c.args.budget.now c.args.budget.now
+    c.take_given.result c.next_task.ensures.same c.next_task.ensures.defined
+    c.next_task.ensures.propagated
+    (turned_given (g.T.Theory.meaning c.take_given.new.self.theory)
+    (g.T.Theory.followed c.take_given.new.self.theory) c.next_task.new.self.defined
+    c.take_given.new.self.defined c.args.assumed.now c.next_task.new.self.state
+    c.take_given.new.self.state c.take_given.result (same_itself (g.T.Theory.meaning c.next_task.new.self.theory)) c.requires.may.room
+    c.take_given.ensures.right c.take_given.ensures.on c.take_given.ensures.turn)
+
+pub core-requires-clause-over : goal.core-requires-clause-over
+core-requires-clause-over g c =
+    let task : MustRefuse c.args.assumed.now c.next_task.new.self.state.trail.steps c.in-Refuse.lit =
+    subst
+    (IsTask (g.T.Theory.meaning c.next_task.new.self.theory) c.args.assumed.now
+    c.next_task.new.self.state c.next_task.new.self.given) c.in-Refuse.is
+    c.in_ok-conflict.ensures.task in
+    let may =
+    may_turn_on c.next_task.ensures.propagated c.in_ok-conflict.ensures.right c.requires.may in
+    All-contains (IsOver c.next_task.new.self.state.trail.vars) c.args.assumed.now c.in-Refuse.lit
+    may.over task.among
+
+pub returns-in_err-core-in-Refuse-clause-counted : goal.returns-in_err-core-in-Refuse-clause-counted
+returns-in_err-core-in-Refuse-clause-counted g c =
+    counted_none (g.T.Theory.meaning c.args.self.now.theory) c.args.assumed.now
+    c.args.self.now.defined c.args.self.now.state.clauses c.args.budget.now c.args.budget.now refl
+
+pub returns-in_ok-core-in-Refuse-clause-counted : goal.returns-in_ok-core-in-Refuse-clause-counted
+returns-in_ok-core-in-Refuse-clause-counted g c =
+    counted_none (g.T.Theory.meaning c.args.self.now.theory) c.args.assumed.now
+    c.args.self.now.defined c.args.self.now.state.clauses c.args.budget.now c.args.budget.now refl
+
+pub returns-in_ok-core-in-Refuse-clause-turn : goal.returns-in_ok-core-in-Refuse-clause-turn
+returns-in_ok-core-in-Refuse-clause-turn g c =
+    let task : MustRefuse c.args.assumed.now c.next_task.new.self.state.trail.steps c.in-Refuse.lit =
+    subst
+    (IsTask (g.T.Theory.meaning c.next_task.new.self.theory) c.args.assumed.now
+    c.next_task.new.self.state c.next_task.new.self.given) c.in-Refuse.is
+    c.in_ok-conflict.ensures.task in
+    turned_on (g.T.Theory.meaning c.next_task.new.self.theory) (g.T.Theory.followed c.next_task.new.self.theory)
+    c.next_task.new.self.defined c.args.assumed.now c.args.stop c.next_task.new.self.state
+    c.args.budget.now c.args.budget.now (Ended (Core c.in_ok-core-in-Refuse.field-0))
+    c.next_task.ensures.same c.next_task.ensures.defined c.next_task.ensures.propagated
+    (turned_still (same_itself (g.T.Theory.meaning c.next_task.new.self.theory)) c.in_ok-conflict.ensures.right
+    c.in_ok-conflict.ensures.right.follows
+    (record {
+      says =
+          core_of (g.T.Theory.meaning c.next_task.new.self.theory) (g.T.Theory.followed c.next_task.new.self.theory)
+          c.next_task.new.self.state c.next_task.new.self.defined c.args.assumed.now
+          c.in-Refuse.lit c.in_ok-core-in-Refuse.field-0 c.in_ok-conflict.ensures.right
+          (order_propagated c.next_task.ensures.propagated c.requires.may.order).first
+          task.among task.is_false
+          c.in_ok-core-in-Refuse.ensures.core c.in_ok-core-in-Refuse.ensures.unmet;
+      counted = room_below c.args.stop c.args.budget.now c.requires.may.room;
+    }))
+
+pub returns-in-Decide-clause-counted : goal.returns-in-Decide-clause-counted
+returns-in-Decide-clause-counted g c =
+    counted_none (g.T.Theory.meaning c.args.self.now.theory) c.args.assumed.now
+    c.args.self.now.defined c.args.self.now.state.clauses c.args.budget.now c.args.budget.now refl
+
+pub returns-in-Decide-clause-turn : goal.returns-in-Decide-clause-turn
+returns-in-Decide-clause-turn g c =
+    let task : MayDecide c.next_task.new.self.state.clauses c.args.assumed.now
+    c.next_task.new.self.state.trail c.in-Decide.lit =
+    subst
+    (IsTask (g.T.Theory.meaning c.next_task.new.self.theory) c.args.assumed.now
+    c.next_task.new.self.state c.next_task.new.self.given) c.in-Decide.is
+    c.in_ok-conflict.ensures.task in
+    turned_on (g.T.Theory.meaning c.next_task.new.self.theory) (g.T.Theory.followed c.next_task.new.self.theory)
+    c.next_task.new.self.defined c.args.assumed.now c.args.stop c.decide.new.self
+    c.args.budget.now c.args.budget.now Going
+    c.next_task.ensures.same c.next_task.ensures.defined c.next_task.ensures.propagated
+    (turned_decided _ c.in_ok-conflict.ensures.right c.decide.ensures
+    task.turn c.requires.may.room.below)
+
+pub check_total-requires-clause-may : goal.check_total-requires-clause-may
+check_total-requires-clause-may g c =
+    may_turn_on c.next_task.ensures.propagated c.in_ok-conflict.ensures.right c.requires.may
+
+pub returns-in-Check-clause-same : goal.returns-in-Check-clause-same
+returns-in-Check-clause-same g c =
+    same_then (g.T.Theory.meaning c.args.self.now.theory)
+    (g.T.Theory.meaning c.next_task.new.self.theory) (g.T.Theory.meaning c.check_total.new.self.theory)
+    c.next_task.ensures.same c.check_total.ensures.same
+
+pub returns-in-Check-clause-counted : goal.returns-in-Check-clause-counted
+returns-in-Check-clause-counted g c =
+    counted_none (g.T.Theory.meaning c.args.self.now.theory) c.args.assumed.now
+    c.args.self.now.defined c.args.self.now.state.clauses c.args.budget.now c.args.budget.now refl
+
+pub returns-in-Check-clause-turn : goal.returns-in-Check-clause-turn
+returns-in-Check-clause-turn g c =
+    if_turned_on (g.T.Theory.meaning c.check_total.new.self.theory) (g.T.Theory.followed c.check_total.new.self.theory)
+    c.check_total.new.self.defined c.args.assumed.now c.args.stop c.check_total.new.self.state c.args.budget.now c.args.budget.now
+    c.check_total.result c.next_task.ensures.same c.next_task.ensures.defined
+    c.next_task.ensures.propagated
+    c.check_total.ensures.turn
