@@ -1,75 +1,120 @@
 -- What an engine that was opened for the parts of a set has shown when it answers.
-use Rattle.std.proofs.Common.{◌≡◌, ◌≢◌, ◌≤◌, ◌+◌, ℕ, Bool, List, [], ◌∷◌, ◌++◌, length, sym, ap, ◌∙◌}
-use Rattle.std.proofs.Common.{subst, arith}
+use Rattle.std.proofs.Common.{◌≡◌, ◌≢◌, ◌≤◌, ◌+◌, ◌%◌, ℕ, Bool, List, [], ◌++◌, eqb}
+use Rattle.std.proofs.Common.{length, get_or, sym, ap, ◌∙◌, subst, inl, inr, arith}
 use Rattle.std.specs.Prelude.{All, Contains, Result, IfOk}
-use Rattle.std.proofs.lemmas.List.Elements.{All-cons, All-nil, All-weaker}
-use Rattle.item_list.proofs.ListLemmas.{All-right}
-use Rattle.clause_store.specs.declared.literal.Lit.{Lit}
-use Rattle.clause_store.specs.Clause.{IsOver}
-use Rattle.clause_store.specs.Counted.{Counted}
-use Rattle.clause_store.specs.History.{Added, given, counted, added_clauses, counted_clauses}
-use Rattle.clause_store.proofs.LiteralLemmas.{all_through, has_first, has_later}
+use Rattle.std.proofs.lemmas.Bool.{cases_Bool, cases_lt, eqb-true, eqb-false}
+use Rattle.std.proofs.lemmas.List.Elements.{All-contains, All-weaker, Contains-get_or}
 use Rattle.ground_program.specs.Meaning.{IsSetOver}
+use Rattle.clause_store.specs.declared.literal.Lit.{Lit}
+use Rattle.clause_store.specs.Clause.{variable, IsOver}
+use Rattle.clause_store.specs.Counted.{Counted}
+use Rattle.clause_store.specs.History.{counted_clauses}
 use Rattle.clause_store.specs.Trail.{Assigned}
+use Rattle.clause_store.proofs.LiteralLemmas.{lit_of_code}
 use Rattle.normal_program.specs.declared.normal.Normal.{Normal}
+use Rattle.normal_program.specs.Clauses.{positive, negative}
 use Rattle.normal_program.specs.Limit.{IsNormal}
+use Rattle.normal_program.specs.Loop.{IsLocalWithin}
 use Rattle.normal_program.specs.Normal.{greatest_body_var}
+use Rattle.normal_program.specs.Spent.{inner_clauses}
+use Rattle.normal_program.proofs.RangeLemmas.{IsNormal-in_range}
+use Rattle.completion.proofs.InnerOverLemmas.{inner_clauses-over}
+use Rattle.search_state.specs.State.{Searched}
 use Rattle.assumption_engine.specs.declared.answer.Answer.{Answer}
 use Rattle.assumption_engine.specs.declared.answer.Answer.TheVariants.{Model}
 use Rattle.assumption_engine.specs.declared.answer.Answer.TheVariants.{NoMemory as WantsMemory}
-use Rattle.assumption_engine.specs.declared.state.State.{State}
 use Rattle.assumption_engine.specs.Answer.{HasEnded, IsAnswer, IsCountedRight}
-use Rattle.assumption_engine.specs.Engine.{GoesOn, IsRight}
+use Rattle.assumption_engine.specs.Engine.{GoesOn}
+use Rattle.assumption_engine.specs.Sided.{AreAsAssumed, IsOneSided}
 use Rattle.minimality_test.specs.declared.answer.Minimality.{Minimality}
 use Rattle.minimality_test.specs.declared.answer.Minimality.TheVariants.{NoMemory}
 use Rattle.minimality_test.specs.Minimality.{HasAnswered, HasCountedWithin}
 use Rattle.minimality_test.specs.Parts.{PartsOf, meaning_of}
 use Rattle.minimality_test.specs.Search.{IsSearch, IsSearched, MayCome, read_as}
 use Rattle.minimality_test.proofs.AnswerLemmas.{counted_within, may_come, read_counts, read_says}
+use Rattle.minimality_test.proofs.PartLemmas.{speaks_over}
 
--- what was counted is among what was added
-counted_among : (added : List Added)
-    → All (Contains (added_clauses added)) (counted_clauses added)
-counted_among [] = All-nil (Contains [])
-counted_among (given clause ∷ rest) =
-    All-weaker (Contains (added_clauses rest)) (Contains (clause ∷ added_clauses rest))
-    (λ one here. has_later clause one (added_clauses rest) here) (counted_clauses rest)
-    (counted_among rest)
-counted_among (counted clause ∷ rest) =
-    All-cons (Contains (clause ∷ added_clauses rest)) clause (counted_clauses rest)
-    (has_first clause (added_clauses rest))
-    (All-weaker (Contains (added_clauses rest)) (Contains (clause ∷ added_clauses rest))
-    (λ one here. has_later clause one (added_clauses rest) here) (counted_clauses rest)
-    (counted_among rest))
+-- ---- what was counted is over atoms and bodies
 
-module _ (theory : PartsOf) (old new : State) (defined : List (List Lit)) (dead : Bool)
+module _ (normal : Normal) (is_normal : IsNormal normal) (set : List Bool) where
+  -- no other variable stands in the clauses
+  one_sided : (var : ℕ) → ¬ IsOver (greatest_body_var normal) (positive var)
+      → IsOneSided (IsLocalWithin normal set) (inner_clauses normal set) var
+  one_sided var out =
+      let in_range = IsNormal-in_range normal is_normal in
+      record {
+        not_stored = λ some.
+            out (All-contains (IsOver (greatest_body_var normal)) some.1 (positive var)
+            (All-contains (All (IsOver (greatest_body_var normal))) (inner_clauses normal set) some.1
+            (inner_clauses-over normal in_range set) (some.0, some.2, some.3)) some.4);
+        not_given = λ clause local here.
+            out (All-contains (IsOver (greatest_body_var normal)) clause (positive var)
+            (speaks_over normal in_range clause local.one.0 local.one.1 local.one.2) here);
+      }
+
+  -- so none stands in what was counted
+  lit_over : (unit : List Lit)
+      → AreAsAssumed (IsLocalWithin normal set) (inner_clauses normal set) [] unit → (lit : Lit)
+      → Contains unit lit → IsOver (greatest_body_var normal) lit
+  lit_over unit sided lit here =
+      elim (cases_lt (variable lit) 1) [
+        | inl zero ↦ absurd (stands (λ over. omega (arith, zero, over.first)))
+        | inr some ↦
+            elim (cases_lt (greatest_body_var normal) (variable lit)) [
+              | inl past ↦ absurd (stands (λ over. omega (arith, past, over.last)))
+              | inr within ↦ record { first = some; last = within }
+            ]
+      ]
+    where
+      stands : ¬ IsOver (greatest_body_var normal) (positive (variable lit)) → ⊥
+      stands out =
+          let stands_so = sided (variable lit) (one_sided (variable lit) out) in
+          elim (cases_Bool (eqb (lit.0 % 2) 1)) [
+            | inl odd ↦
+                let one : lit.0 % 2 ≡ 1 = eqb-true (lit.0 % 2) 1 odd in
+                let is : lit ≡ negative (variable lit) =
+                lit_of_code lit (negative (variable lit)) (omega (arith, one)) in
+                let nothing = stands_so.assumed_so (subst (Contains unit) is here) in
+                omega (arith, nothing.1)
+            | inr even ↦
+                let other : lit.0 % 2 ≢ 1 = eqb-false (lit.0 % 2) 1 even in
+                let is : lit ≡ positive (variable lit) =
+                lit_of_code lit (positive (variable lit)) (omega (arith, other)) in
+                stands_so.negated (subst (Contains unit) is here)
+          ]
+
+  unit_over : (unit : List Lit)
+      → AreAsAssumed (IsLocalWithin normal set) (inner_clauses normal set) [] unit
+      → All (IsOver (greatest_body_var normal)) unit
+  unit_over unit sided k d within =
+      lit_over unit sided (get_or unit k d) (Contains-get_or unit k d within)
+
+-- ---- what was shown
+
+module _ (theory : PartsOf) (old new : Searched) (defined : List (List Lit)) (dead : Bool)
     (search : IsSearch theory old defined dead) (before after : Counted)
     (unused : before.units ≡ []) (on : GoesOn (meaning_of theory.normal theory.set) [] old new before
     after) where
-  -- what was counted stands in the store, which is over atoms and bodies
-  units_over : (other : PartsOf) (there : List (List Lit))
-      → IsRight (meaning_of other.normal other.set) other.followed new there
-      → All (All (IsOver (greatest_body_var theory.normal))) after.units
-  units_over other there right =
+  units_over : All (All (IsOver (greatest_body_var theory.normal))) after.units
+  units_over =
       let units : after.units ≡ counted_clauses on.added =
       ap (λ (it : Counted). it.units) on.counts
       ∙ ap (λ units. units ++ counted_clauses on.added) unused in
       subst (All (All (IsOver (greatest_body_var theory.normal)))) (sym units)
-      (all_through (All (IsOver (greatest_body_var theory.normal))) (counted_clauses on.added)
-      (added_clauses on.added) (counted_among on.added)
-      (All-right (All (IsOver (greatest_body_var theory.normal))) old.store
-      (added_clauses on.added)
-      (subst (All (All (IsOver (greatest_body_var theory.normal)))) on.clauses
-      (subst (λ vars. All (All (IsOver vars)) new.store) (on.vars ∙ search.vars)
-      right.ready.over))))
+      (All-weaker
+      (AreAsAssumed (IsLocalWithin theory.normal theory.set)
+      (inner_clauses theory.normal theory.set) [])
+      (All (IsOver (greatest_body_var theory.normal)))
+      (unit_over theory.normal search.normal_form theory.set) (counted_clauses on.added)
+      (subst
+      (λ clauses. All (AreAsAssumed (IsLocalWithin theory.normal theory.set) clauses [])
+      (counted_clauses on.added)) search.clauses on.as_assumed))
 
   -- so this is known at an answer
   pub searched : (limit : ℕ) → limit ≡ before.limit → (answer : Answer)
       → HasEnded (meaning_of theory.normal theory.set) defined [] (length before.units + limit) new
-      after answer → (other : PartsOf) (there : List (List Lit))
-      → IsRight (meaning_of other.normal other.set) other.followed new there
-      → IsSearched theory new before after answer
-  searched limit is answer ended other there right =
+      after answer → IsSearched theory new before after answer
+  searched limit is answer ended =
       let none : length before.units ≡ 0 = ap length unused in
       let kept : after.limit ≡ before.limit = ap (λ (it : Counted). it.limit) on.counts in
       let stop : length before.units + limit ≡ after.limit = omega (arith, none, kept, is) in
@@ -81,15 +126,15 @@ module _ (theory : PartsOf) (old new : State) (defined : List (List Lit)) (dead 
             search.none ended.says;
         counted = subst (λ n. IsCountedRight n after answer) stop ended.counted;
         within =
-            counted_within theory.normal theory.set before after old.store on.added unused
-            search.clauses on.counts on.history (units_over other there right);
+            counted_within theory.normal theory.set before after old.clauses on.added unused
+            search.clauses on.counts on.history units_over;
         range = omega (arith, vars);
       }
 
 -- ---- what it says of the set for which it was opened
 
 module _ (normal : Normal) (set : List Bool) (theory : PartsOf)
-    (opened : theory ≡ record { normal = normal; set = set; followed = [] }) (new : State)
+    (opened : theory ≡ record { normal = normal; set = set; followed = [] }) (new : Searched)
     (before after : Counted) (answer : Answer)
     (known : answer ≢ WantsMemory → IsSearched theory new before after answer)
     (trail : Assigned) (same : trail ≡ new.trail) where

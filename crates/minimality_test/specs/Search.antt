@@ -2,6 +2,7 @@
 use Rattle.std.specs.Prelude.{◌≡◌, ◌≤◌, Bool, false, List, [], ⊤}
 use Rattle.clause_store.specs.declared.literal.Lit.{Lit}
 use Rattle.normal_program.specs.declared.normal.Normal.{Normal}
+use Rattle.normal_program.specs.Limit.{IsNormal}
 use Rattle.normal_program.specs.Normal.{greatest_body_var}
 use Rattle.normal_program.specs.Spent.{inner_clauses}
 use Rattle.clause_store.specs.Counted.{Counted}
@@ -14,24 +15,25 @@ use Rattle.assumption_engine.specs.declared.answer.Answer.TheVariants.{NoMemory 
 use Rattle.minimality_test.specs.declared.answer.Minimality.{Minimality}
 use Rattle.minimality_test.specs.declared.answer.Minimality.TheVariants.{Minimal, Smaller, Spent}
 use Rattle.minimality_test.specs.declared.answer.Minimality.TheVariants.{NoMemory}
-use Rattle.assumption_engine.specs.declared.state.State.{State}
 use Rattle.assumption_engine.specs.Answer.{IsAnswer, IsCountedRight}
 use Rattle.assumption_engine.specs.Engine.{IsRight}
+use Rattle.search_state.specs.State.{Searched}
 use Rattle.minimality_test.specs.Minimality.{HasCountedWithin}
 use Rattle.minimality_test.specs.Parts.{PartsOf, meaning_of}
 
--- an engine has the clauses for the parts of a set, over atoms and bodies, and their theory, and is
+-- an engine over atoms and bodies has the clauses for the parts of a set and their theory, and is
 -- right
-pub record IsSearch (theory : PartsOf) (state : State) (defined : List (List Lit)) (dead : Bool) :
+pub record IsSearch (theory : PartsOf) (state : Searched) (defined : List (List Lit)) (dead : Bool) :
     Type 0 where
+  pub normal_form : IsNormal theory.normal
   pub vars : state.trail.vars ≡ greatest_body_var theory.normal
-  pub clauses : state.store ≡ inner_clauses theory.normal theory.set
+  pub clauses : state.clauses ≡ inner_clauses theory.normal theory.set
   pub none : defined ≡ []
   pub right : IsRight (meaning_of theory.normal theory.set) theory.followed state defined
   pub alive : dead ≡ false
 
 -- what it has shown when it answers
-pub record IsSearched (theory : PartsOf) (new : State) (before after : Counted) (answer : Answer) :
+pub record IsSearched (theory : PartsOf) (new : Searched) (before after : Counted) (answer : Answer) :
     Type 0 where
   pub says :
       IsAnswer (meaning_of theory.normal theory.set) [] [] after.limit new.trail answer
