@@ -134,7 +134,8 @@ module _ (normal : Normal) (in_range : IsInRange normal) (set : List Bool) (trai
   pub quiet_means : IsQuiet (Some set) normal trail.steps
       → MeansWeightBodiesWithin normal set (values_of trail)
   quiet_means quiet number body here weight =
-      let within : number < length normal.bodies = slice_get_within normal.bodies number body here in
+      let within : number < length normal.bodies =
+      slice_get_within normal.bodies number body here in
       truth_on trail (body_var normal number) (omega (arith, within, range))
       ∙ quiet_body number body
       (subst (λ (one : BodyOf). All (λ (part : Part). IsAtomOf normal part.lit.atom) one.parts)

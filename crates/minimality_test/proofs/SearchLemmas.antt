@@ -45,7 +45,8 @@ module _ (normal : Normal) (is_normal : IsNormal normal) (set : List Bool) where
       record {
         not_stored = λ some.
             out (All-contains (IsOver (greatest_body_var normal)) some.1 (positive var)
-            (All-contains (All (IsOver (greatest_body_var normal))) (inner_clauses normal set) some.1
+            (All-contains (All (IsOver (greatest_body_var normal)))
+            (inner_clauses normal set) some.1
             (inner_clauses-over normal in_range set) (some.0, some.2, some.3)) some.4);
         not_given = λ clause local here.
             out (All-contains (IsOver (greatest_body_var normal)) clause (positive var)
@@ -93,8 +94,8 @@ module _ (normal : Normal) (is_normal : IsNormal normal) (set : List Bool) where
 
 module _ (theory : PartsOf) (old new : Searched) (defined : List (List Lit)) (dead : Bool)
     (search : IsSearch theory old defined dead) (before after : Counted)
-    (unused : before.units ≡ []) (on : GoesOn (meaning_of theory.normal theory.set) [] old new before
-    after) where
+    (unused : before.units ≡ [])
+    (on : GoesOn (meaning_of theory.normal theory.set) [] old new before after) where
   units_over : All (All (IsOver (greatest_body_var theory.normal))) after.units
   units_over =
       let units : after.units ≡ counted_clauses on.added =

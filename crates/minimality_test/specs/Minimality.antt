@@ -35,8 +35,8 @@ HasAnswered normal set budget (Smaller part) = IsSmallerThan normal set part × 
 HasAnswered normal set budget Spent = length budget.units ≡ budget.limit
 HasAnswered normal set budget NoMemory = ⊤
 
--- what was counted: units over atoms and bodies beside the clauses for the parts of the set, each of
--- them refuted by these clauses, some clauses local within the set, and the units before it
+-- what was counted: units over atoms and bodies beside the clauses for the parts of the set, each
+-- of them refuted by these clauses, some clauses local within the set, and the units before it
 pub record HasCountedWithin (normal : Normal) (set : List Bool) (before after : Counted) :
     Type 0 where
   pub limit : after.limit ≡ before.limit

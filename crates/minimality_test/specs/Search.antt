@@ -21,10 +21,10 @@ use Rattle.search_state.specs.State.{Searched}
 use Rattle.minimality_test.specs.Minimality.{HasCountedWithin}
 use Rattle.minimality_test.specs.Parts.{PartsOf, meaning_of}
 
--- an engine over atoms and bodies has the clauses for the parts of a set and their theory, and is
--- right
-pub record IsSearch (theory : PartsOf) (state : Searched) (defined : List (List Lit)) (dead : Bool) :
-    Type 0 where
+-- an engine over atoms and bodies has the clauses for the parts of a set and their theory, and
+-- is right
+pub record IsSearch (theory : PartsOf) (state : Searched) (defined : List (List Lit))
+    (dead : Bool) : Type 0 where
   pub normal_form : IsNormal theory.normal
   pub vars : state.trail.vars ≡ greatest_body_var theory.normal
   pub clauses : state.clauses ≡ inner_clauses theory.normal theory.set
@@ -33,8 +33,8 @@ pub record IsSearch (theory : PartsOf) (state : Searched) (defined : List (List 
   pub alive : dead ≡ false
 
 -- what it has shown when it answers
-pub record IsSearched (theory : PartsOf) (new : Searched) (before after : Counted) (answer : Answer) :
-    Type 0 where
+pub record IsSearched (theory : PartsOf) (new : Searched) (before after : Counted)
+    (answer : Answer) : Type 0 where
   pub says :
       IsAnswer (meaning_of theory.normal theory.set) [] [] after.limit new.trail answer
   pub counted : IsCountedRight after.limit after answer
