@@ -1,13 +1,20 @@
-// A library with one function.
+//! The shared board: threads report on one table of words which candidates are consequences and
+//! which aren't, and read at any time a pair of bounds that encloses the consequences. There is no
+//! lock, and nothing takes memory once the board is open.
 #![tactic(auto)]
 
-ghost use Rattle.std.specs.Prelude.{◌≡◌};
-ghost use Rattle.bounds_board.specs.Echo.{echo_of};
+mod board;
+mod opening;
+mod plays;
+mod reading;
+mod reporting;
+mod seat;
+mod settled;
+mod steps;
+mod telling;
+mod view;
 
-// The `ensures` clause is the contract: what `echo` returns is `echo_of` of its argument, a definition
-// in `specs/Echo.antt`, which a caller's clause can cite too.
-pub fn echo(x: usize) -> usize
-    ensures { result ≡ echo_of x }
-{
-    x
-}
+pub use board::Board;
+pub use seat::BoardSeat;
+pub use settled::Settled;
+pub use view::{About, BoardRule, View};
