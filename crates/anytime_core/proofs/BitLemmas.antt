@@ -141,7 +141,8 @@ both_within ones others words one other place bit has =
 pub zeros_at : (count place : ℕ) → slice_index (replicate count 0) place ≡ 0
 zeros_at count place =
     ⊎_elim (λ within. get_or-replicate count place 0 0 within)
-    (λ past. get_or_past (replicate count 0) place 0 (omega (arith, length-replicate {A = ℕ} count 0)))
+    (λ past. get_or_past (replicate count 0) place 0
+    (omega (arith, length-replicate {A = ℕ} count 0)))
     (cases_lt place count)
 
 pub zeros_are_part : (count : ℕ) (words : List ℕ) → IsPartOf (replicate count 0) words

@@ -81,7 +81,8 @@ later_trans one two three first second =
 each_with : (actors : List Actor) (number : ℕ) (new : Actor)
     → KnowsMore (get_or actors number (newcomer 0)) new
     → (other : ℕ) → other < length actors
-    → KnowsMore (get_or actors other (newcomer 0)) (get_or (set actors number new) other (newcomer 0))
+    → KnowsMore (get_or actors other (newcomer 0))
+    (get_or (set actors number new) other (newcomer 0))
 each_with actors number new more other has =
     ⊎_elim
     (λ same. subst (λ n. KnowsMore (get_or actors n (newcomer 0))
@@ -160,7 +161,8 @@ later_after machine (ReportState actor coherent) sound legal =
     later_puts machine (ReportState actor coherent) actor 0 (flag_of coherent) sound legal.actor
 later_after machine (ReadWord actor word) sound legal =
     later_with machine actor
-    (meets_word (actor_at machine actor) (ReadWord actor word) word (slice_index machine.words word))
+    (meets_word (actor_at machine actor) (ReadWord actor word) word
+    (slice_index machine.words word))
     (meets_more (actor_at machine actor) (ReadWord actor word) word (slice_index machine.words word)
     (λ bit seen. (actor_is machine actor sound legal.actor).part word bit seen))
 later_after machine (Append actor clause) sound legal =

@@ -1,6 +1,7 @@
 -- A legal event leaves the machine sound.
 use Rattle.std.proofs.Common.{◌≡◌, ◌<◌, ◌≤◌, ◌+◌, ℕ, Bool, true, false, max}
-use Rattle.std.proofs.Common.{List, [], ◌∷◌, ◌++◌, length, get_or, set, replicate, refl, sym, ap, subst}
+use Rattle.std.proofs.Common.{List, [], ◌∷◌, ◌++◌, length, get_or, set, replicate, refl, sym, ap}
+use Rattle.std.proofs.Common.{subst}
 use Rattle.std.proofs.Common.{◌∙◌, arith, length-append, length-set, le_trans, le_refl, zero-le}
 use Rattle.std.proofs.Common.{ltb-true, inl, inr}
 use Rattle.std.specs.Prelude.{bit_or, slice_index, if◌then◌else◌, nat_eq, nat_lt, ◌&&◌}

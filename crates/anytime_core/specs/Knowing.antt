@@ -1,6 +1,7 @@
 -- What an actor has seen and done after a step. An actor meets a word where it sees the word as it
 -- stands after the step.
-use Rattle.std.specs.Prelude.{◌+◌, ℕ, nat_eq, nat_lt, ◌&&◌, if◌then◌else◌, replicate, max, Some, None}
+use Rattle.std.specs.Prelude.{◌+◌, ℕ, nat_eq, nat_lt, ◌&&◌, if◌then◌else◌, replicate, max, Some}
+use Rattle.std.specs.Prelude.{None}
 use Rattle.std.specs.Prelude.{slice_set}
 use Rattle.anytime_core.specs.declared.event.Event.{Event}
 use Rattle.anytime_core.specs.declared.actor.Actor.{Actor}

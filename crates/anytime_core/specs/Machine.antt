@@ -76,7 +76,8 @@ after machine (ReportState actor coherent) =
     puts_bits machine (ReportState actor coherent) actor 0 (flag_of coherent)
 after machine (ReadWord actor word) =
     with_actor machine actor
-    (meets_word (actor_at machine actor) (ReadWord actor word) word (slice_index machine.words word))
+    (meets_word (actor_at machine actor) (ReadWord actor word) word
+    (slice_index machine.words word))
 after machine (Append actor clause) =
     record (with_actor machine actor
     (sees_places (actor_at machine actor) (Append actor clause) (length machine.log + 1))) {

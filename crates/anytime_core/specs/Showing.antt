@@ -1,5 +1,6 @@
 -- What it means to write the bits of words to truth values.
-use Rattle.std.specs.Prelude.{◌≡◌, ◌+◌, ◌-◌, ◌*◌, ◌/◌, ◌%◌, ◌≤◌, ◌<◌, ◌⊎◌, ℕ, Bool, false, not, nat_eq, List, length}
+use Rattle.std.specs.Prelude.{◌≡◌, ◌+◌, ◌-◌, ◌*◌, ◌/◌, ◌%◌, ◌≤◌, ◌<◌, ◌⊎◌, ℕ, Bool, false, not}
+use Rattle.std.specs.Prelude.{nat_eq, List, length}
 use Rattle.std.specs.Prelude.{slice_index_or}
 use Rattle.std.specs.Int.{bit_at}
 use Rattle.ground_program.specs.declared.pair.Pair.{Pair}

@@ -10,10 +10,10 @@ pub fn every_state_is_sound()
     ensures encloses { AlwaysEncloses }
 {}
 
-/// Legal events leave a sound machine sound and make it a later one: no place of the log changes, and
-/// no actor forgets what it has seen (`keep`). So each actor's pair lies within its earlier pairs
-/// (`narrow`) and holds its reports (`reports`), and after Copy and Meet the actor that was told has
-/// a pair within the pairs of both (`told`).
+/// Legal events leave a sound machine sound and make it a later one: no place of the log changes,
+/// and no actor forgets what it has seen (`keep`). So each actor's pair lies within its earlier
+/// pairs (`narrow`) and holds its reports (`reports`), and after Copy and Meet the actor that was
+/// told has a pair within the pairs of both (`told`).
 pub fn knowledge_only_grows()
     ensures keep { EventsKeep }
     ensures narrow { PairsNarrow }

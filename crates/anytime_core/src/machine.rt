@@ -49,8 +49,8 @@ impl Model for Core {
 }
 
 impl Core {
-    /// The machine with no event so far, with so many actors and room for so many clauses. The other
-    /// calls take no memory.
+    /// The machine with no event so far, with so many actors and room for so many clauses. The
+    /// other calls take no memory.
     pub fn open(
         alloc: Global,
         normal: &Normal,

@@ -1,6 +1,7 @@
 -- Masks of the candidates that a set shows.
-use Rattle.std.proofs.Common.{◌≡◌, ◌≢◌, ◌<◌, ◌≤◌, ◌⊎◌, ◌+◌, ◌-◌, ◌/◌, ◌%◌, ◌↔◌, ◌*◌, ◌^◌, ℕ, Bool}
-use Rattle.std.proofs.Common.{true, false, not, List, length, map, get_or, refl, sym, ap, subst, ◌∙◌}
+use Rattle.std.proofs.Common.{◌≡◌, ◌<◌, ◌≤◌, ◌⊎◌, ◌+◌, ◌-◌, ◌^◌, ℕ, Bool}
+use Rattle.std.proofs.Common.{true, false, not, List, length, map, refl, sym, ap, subst}
+use Rattle.std.proofs.Common.{◌∙◌}
 use Rattle.std.proofs.Common.{⊎_elim, arith, true≢false, [], ◌∷◌, zero, suc}
 use Rattle.std.specs.Prelude.{slice_get}
 use Rattle.std.specs.Option.{option_map_or}
@@ -12,12 +13,12 @@ use Rattle.ground_program.specs.declared.program.Mode.{Mode}
 use Rattle.ground_program.specs.declared.program.Mode.TheVariants.{Cautious, Brave}
 use Rattle.ground_program.specs.declared.program.Named.{Named}
 use Rattle.ground_program.specs.Meaning.{has}
-use Rattle.ground_program.specs.Bounds.{IsCandidate, Shows, atom_of}
+use Rattle.ground_program.specs.Bounds.{Shows, atom_of}
 use Rattle.normal_program.specs.declared.normal.Normal.{Normal}
-use Rattle.anytime_core.specs.Bits.{HasBit, in_place, bit_of}
+use Rattle.anytime_core.specs.Bits.{HasBit}
 use Rattle.anytime_core.proofs.BitLemmas.{bit_from_or, bit_or_left, bit_or_right, no_bit_of_zero}
 use Rattle.anytime_core.proofs.BitLemmas.{not_both}
-use Rattle.bounds_board.specs.Reports.{shows_atom, IsShownBit, IsMaskOf}
+use Rattle.bounds_board.specs.Reports.{shows_atom, IsMaskOf}
 
 -- the mask has the bits of the shown candidates before a place
 pub record HasMask (mode : Mode) (set : List Bool) (atoms : List ℕ) (first place mask : ℕ) : Type 0

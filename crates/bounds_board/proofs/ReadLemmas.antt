@@ -1,5 +1,6 @@
 -- A read of the board, word by word.
-use Rattle.std.proofs.Common.{◌≡◌, ◌≢◌, ◌<◌, ◌≤◌, ◌⊎◌, ◌+◌, ◌-◌, ◌*◌, ℕ, List, length, refl, sym, ap, subst}
+use Rattle.std.proofs.Common.{◌≡◌, ◌<◌, ◌≤◌, ◌+◌, ◌-◌, ◌*◌, ℕ, length, sym}
+use Rattle.std.proofs.Common.{subst}
 use Rattle.std.proofs.Common.{◌∙◌, ⊎_elim, arith, le_refl, lt_of_lt_of_le}
 use Rattle.std.specs.Prelude.{slice_index}
 use Rattle.std.proofs.lemmas.Bool.{cases_eq, cases_lt}
@@ -7,7 +8,7 @@ use Rattle.ground_program.specs.declared.pair.Pair.{Pair}
 use Rattle.ground_program.specs.Bounds.{IsPairOver}
 use Rattle.normal_program.specs.declared.normal.Normal.{Normal}
 use Rattle.anytime_core.specs.declared.event.Event.{Event}
-use Rattle.anytime_core.specs.Bits.{IsPairOf, IsPartOf, words_for, all_words}
+use Rattle.anytime_core.specs.Bits.{IsPairOf, words_for, all_words}
 use Rattle.anytime_core.specs.Showing.{IsShown, IsShownNot, IsShownUpTo}
 use Rattle.anytime_core.specs.Laws.{KnowsMore}
 use Rattle.anytime_core.specs.Truth.{EnclosesN}
@@ -17,9 +18,10 @@ use Rattle.bounds_board.specs.declared.view.View.{View}
 use Rattle.bounds_board.specs.declared.board.Board.{Board}
 use Rattle.bounds_board.specs.Rule.{IsView, Place}
 use Rattle.bounds_board.specs.Plays.{Met}
-use Rattle.bounds_board.specs.Board.{IsSeatOf, normal_of, mode_of, view_of, seen_of}
+use Rattle.bounds_board.specs.Board.{IsSeatOf, normal_of, mode_of, seen_of}
 use Rattle.bounds_board.specs.Reads.{IsMetSince, HasMetAll, LiesWithin}
-use Rattle.bounds_board.proofs.ViewLemmas.{knows_more, knows_trans, true_row, sees_word, sees_others}
+use Rattle.bounds_board.proofs.ViewLemmas.{knows_more, knows_trans, true_row, sees_word}
+use Rattle.bounds_board.proofs.ViewLemmas.{sees_others}
 use Rattle.bounds_board.proofs.ViewLemmas.{met_now, met_grows, steps_rise, normal_stays}
 
 -- so many in-words and out-words were read since, and are in the pair
@@ -73,7 +75,8 @@ read_start board old new pair event word met was now is will over =
 
 -- one more in-word and one more out-word
 module _ (board : Board) (first : View) (old mid new : Place) (pair after : Pair) (count : ℕ)
-    (ins_event outs_event : Event) (inside outside : ℕ) (before : HasRead board first old pair count)
+    (ins_event outs_event : Event) (inside outside : ℕ)
+    (before : HasRead board first old pair count)
     (within : count < words_for (length (normal_of board).names))
     (one : Met old.view mid.view ins_event (1 + count) inside)
     (two : Met mid.view new.view outs_event

@@ -1,5 +1,5 @@
 -- What a seat holds after reports.
-use Rattle.std.proofs.Common.{◌≡◌, ◌≢◌, ◌<◌, ◌≤◌, ◌⊎◌, ◌+◌, ◌-◌, ◌*◌, ◌/◌, ◌%◌, ◌^◌, ℕ, Bool, true}
+use Rattle.std.proofs.Common.{◌≡◌, ◌<◌, ◌≤◌, ◌+◌, ◌-◌, ◌*◌, ◌/◌, ◌%◌, ◌^◌, ℕ, Bool, true}
 use Rattle.std.proofs.Common.{false, List, length, refl, sym, ap, subst, ◌∙◌, ⊎_elim, arith}
 use Rattle.std.specs.Prelude.{bit_or, slice_index, if◌then◌else◌}
 use Rattle.std.specs.Int.{bit_at}
@@ -22,9 +22,9 @@ use Rattle.bounds_board.specs.declared.view.View.{View}
 use Rattle.bounds_board.specs.declared.board.Board.{Board}
 use Rattle.bounds_board.specs.Rule.{IsView, Place}
 use Rattle.bounds_board.specs.Plays.{Met}
-use Rattle.bounds_board.specs.Board.{IsSeatOf, normal_of, mode_of, view_of, seen_of}
-use Rattle.bounds_board.specs.Reports.{HoldsIn, HoldsOut, HoldsState, HoldsShown, HoldsSet}
-use Rattle.bounds_board.specs.Reports.{IsShownBit, IsMaskOf}
+use Rattle.bounds_board.specs.Board.{IsSeatOf, normal_of, mode_of, seen_of}
+use Rattle.bounds_board.specs.Reports.{HoldsState, HoldsShown}
+use Rattle.bounds_board.specs.Reports.{IsMaskOf}
 use Rattle.bounds_board.proofs.ViewLemmas.{knows_more, knows_trans, sees_word}
 
 -- the only bit of a power of two
@@ -79,7 +79,8 @@ pub holds_mask : (old new : View) (event : Event) (place found mask bit : ℕ)
     → place < all_words (length old.normal.names) → HasBit mask bit
     → HasBit (slice_index new.actor.seen place) bit
 holds_mask old new event place found mask bit met is within has =
-    subst (λ n. HasBit n bit) (sym (sees_word old new event place (bit_or found mask) met is within))
+    subst (λ n. HasBit n bit)
+    (sym (sees_word old new event place (bit_or found mask) met is within))
     (bit_or_right found mask bit has)
 
 -- the flag of what was reported

@@ -1,26 +1,26 @@
 -- Each kind of step keeps the rule of the board.
-use Rattle.std.proofs.Common.{◌≡◌, ◌≢◌, ◌<◌, ◌⊎◌, ◌++◌, ◌∷◌, [], ℕ, zero, suc, true≢false, true, List}
+use Rattle.std.proofs.Common.{◌≡◌, ◌≢◌, ◌<◌, ◌∷◌, [], ℕ, zero, suc, true≢false, true}
+use Rattle.std.proofs.Common.{List}
 use Rattle.std.proofs.Common.{length, set, replicate, refl, sym, ap, subst, ◌∙◌, ⊎_elim, length-set}
-use Rattle.std.specs.Prelude.{bit_or, slice_index}
+use Rattle.std.specs.Prelude.{slice_index}
 use Rattle.std.proofs.lemmas.List.{get_or-set_same, length-replicate}
 use mathlib.Core.Option.{some, some-injective, some-ne-none}
 use lib.ListN.{get_elem?}
-use Rattle.atomic_table.specs.Table.{State, Me, Step, Allows, Splits, Joins, keeps, stepped, opening}
+use Rattle.atomic_table.specs.Table.{Me, Allows, Splits, Joins, keeps, stepped}
+use Rattle.atomic_table.specs.Table.{opening}
 use Rattle.atomic_table.proofs.Lists.{at_set, at_snoc}
 use Rattle.ground_program.specs.declared.program.Mode.{Mode}
 use Rattle.normal_program.specs.declared.normal.Normal.{Normal}
 use Rattle.anytime_core.specs.declared.event.Event.{Event}
-use Rattle.anytime_core.specs.declared.actor.Actor.{Actor}
-use Rattle.anytime_core.specs.Bits.{HasBit, IsPartOf, all_words, both}
+use Rattle.anytime_core.specs.Bits.{HasBit, IsPartOf, all_words}
 use Rattle.anytime_core.specs.Truth.{IsTrueWord, AreTrue}
-use Rattle.anytime_core.specs.Knowing.{newcomer, told_by}
 use Rattle.anytime_core.proofs.BitLemmas.{part_trans, part_refl, part_grows, part_meets}
 use Rattle.anytime_core.proofs.BitLemmas.{both_within, length-both, zeros_are_part}
 use Rattle.anytime_core.proofs.TruthLemmas.{true_set, true_zeros}
 use Rattle.bounds_board.specs.declared.view.About.{About}
 use Rattle.bounds_board.specs.declared.view.View.{View}
-use Rattle.bounds_board.specs.Rule.{IsView, FitsTable, KeepsBoard, first_view}
-use Rattle.bounds_board.specs.Plays.{met_view, Met, Teaches, teller, note_of, learner, spent_view}
+use Rattle.bounds_board.specs.Rule.{FitsTable, KeepsBoard, first_view}
+use Rattle.bounds_board.specs.Plays.{met_view, Teaches, teller, note_of, learner, spent_view}
 
 module _ (about : About) where
   -- two live views are of one run

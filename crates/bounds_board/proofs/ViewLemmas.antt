@@ -1,21 +1,21 @@
 -- What stays of a view after a step.
-use Rattle.std.proofs.Common.{◌≡◌, ◌≢◌, ◌<◌, ◌≤◌, ◌⊎◌, ◌+◌, ℕ, true, List, length, set, replicate}
-use Rattle.std.proofs.Common.{[], ◌∷◌, zero, suc, refl, sym, ap, subst, ◌∙◌, ⊎_elim, arith, length-set}
-use Rattle.std.proofs.Common.{le_refl, le_trans, get_or, zero-le}
-use Rattle.std.specs.Prelude.{bit_or, slice_index}
+use Rattle.std.proofs.Common.{◌≡◌, ◌≢◌, ◌<◌, ◌≤◌, ◌+◌, ℕ, List, length, set, replicate}
+use Rattle.std.proofs.Common.{[], ◌∷◌, refl, sym, ap, subst, ◌∙◌, ⊎_elim, arith}
+use Rattle.std.proofs.Common.{length-set}
+use Rattle.std.proofs.Common.{le_refl, le_trans, zero-le}
+use Rattle.std.specs.Prelude.{slice_index}
 use Rattle.std.proofs.lemmas.Bool.{cases_eq, cases_lt}
 use Rattle.std.proofs.lemmas.List.{get_or-set_same, get_or-set_other, set_past, length-replicate}
 use Rattle.ground_program.specs.declared.program.Mode.{Mode}
 use Rattle.normal_program.specs.declared.normal.Normal.{Normal}
 use Rattle.anytime_core.specs.declared.event.Event.{Event}
 use Rattle.anytime_core.specs.declared.actor.Actor.{Actor}
-use Rattle.anytime_core.specs.Bits.{HasBit, IsPartOf, all_words, both}
+use Rattle.anytime_core.specs.Bits.{HasBit, all_words, both}
 use Rattle.anytime_core.specs.Truth.{IsTrueWord, AreTrue}
-use Rattle.anytime_core.specs.Knowing.{newcomer, told_by}
 use Rattle.anytime_core.specs.Laws.{KnowsMore}
-use Rattle.anytime_core.proofs.BitLemmas.{part_trans, part_refl, part_grows, length-both, zeros_at}
-use Rattle.anytime_core.proofs.BitLemmas.{bit_or_right, both_at, bit_from_or}
-use Rattle.anytime_core.proofs.TruthLemmas.{true_set, true_zeros}
+use Rattle.anytime_core.proofs.BitLemmas.{part_trans, part_grows, length-both, zeros_at}
+use Rattle.anytime_core.proofs.BitLemmas.{both_at, bit_from_or}
+use Rattle.anytime_core.proofs.TruthLemmas.{true_set}
 use Rattle.bounds_board.specs.declared.view.View.{View}
 use Rattle.bounds_board.specs.Rule.{IsView}
 use Rattle.bounds_board.specs.Plays.{met_view, Met, teller, note_of, learner}

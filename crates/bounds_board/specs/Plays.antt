@@ -1,6 +1,7 @@
--- What each kind of step does to the view of its seat. Each is one event of the machine, in which the
--- seat is actor 0.
-use Rattle.std.specs.Prelude.{◌≡◌, ◌+◌, ◌-◌, ℕ, false, nat_eq, List, [], length, slice_index, bit_or}
+-- What each kind of step does to the view of its seat. Each is one event of the machine, in which
+-- the seat is actor 0.
+use Rattle.std.specs.Prelude.{◌≡◌, ◌+◌, ◌-◌, ℕ, false, nat_eq, [], length, slice_index}
+use Rattle.std.specs.Prelude.{bit_or}
 use Rattle.atomic_table.specs.Table.{Step, Me}
 use Rattle.ground_program.specs.declared.program.Mode.TheVariants.{Cautious}
 use Rattle.anytime_core.specs.declared.event.Event.{Event}

@@ -1,5 +1,5 @@
 -- What a seat holds after a report.
-use Rattle.std.specs.Prelude.{◌≡◌, ◌<◌, ◌+◌, ◌↔◌, ℕ, Bool, true, not, if◌then◌else◌, List, length}
+use Rattle.std.specs.Prelude.{◌<◌, ◌+◌, ◌↔◌, ℕ, Bool, true, not, if◌then◌else◌, List, length}
 use Rattle.std.specs.Prelude.{slice_index}
 use Rattle.ground_program.specs.declared.program.Mode.{Mode}
 use Rattle.ground_program.specs.declared.program.Mode.TheVariants.{Cautious, Brave}

@@ -15,7 +15,8 @@ pub record Place : Type 0 where
   pub table : TableId
   pub view : View
 
--- a view of a live seat: the words that it has seen are true, and no word was met after its last step
+-- a view of a live seat: the words that it has seen are true, and no word was met after its last
+-- step
 pub record IsView (view : View) : Type 0 where
   pub is_live : view.live ≡ true
   pub seen_length : length view.actor.seen ≡ all_words (length view.normal.names)

@@ -35,8 +35,8 @@ impl Board {
         }
     }
 
-    /// What is known of a candidate, by a look at its in-word and, where that hasn't its bit, at its
-    /// out-word.
+    /// What is known of a candidate, by a look at its in-word and, where that hasn't its bit, at
+    /// its out-word.
     pub fn is_settled(&self, seat: &mut BoardSeat, cand: u32) -> Settled
         requires seat { IsSeatOf self.now seat.old }
         requires cand { IsCandidate (normal_of self.now).names cand }

@@ -1,6 +1,7 @@
 // The atomic steps: a load, and three kinds of fetch_or.
 ghost use Rattle.std.specs.Prelude.{◌≡◌, ◌<◌, ◌+◌, ◌↔◌, ℕ, length, bit_or, IsTrue};
-ghost use Rattle.anytime_core.specs.declared.event.Event.TheVariants.{ReadWord, ReportIn, ReportOut};
+ghost use Rattle.anytime_core.specs.declared.event.Event.TheVariants.{ReadWord, ReportIn};
+ghost use Rattle.anytime_core.specs.declared.event.Event.TheVariants.{ReportOut};
 ghost use Rattle.anytime_core.specs.declared.event.Event.TheVariants.{ReportState};
 ghost use Rattle.anytime_core.specs.Bits.{HasBit, words_for, all_words};
 ghost use Rattle.anytime_core.specs.Truth.{IsTrueIn, IsTrueOut, IsCoherent};

@@ -1,6 +1,6 @@
 // What a seat knows, and the rule of the table. Word 0 has the flags: bit 0 says that there is an
-// answer set, bit 1 that there is none. Then come the in-words and as many out-words, with a bit for
-// each candidate: that of candidate c is bit (c - 1) % 64 of the word (c - 1) / 64 of its side.
+// answer set, bit 1 that there is none. Then come the in-words and as many out-words, with a bit
+// for each candidate: that of candidate c is bit (c - 1) % 64 of the word (c - 1) / 64 of its side.
 use anytime_core::Actor;
 use atomic_table::TableRule;
 use ground_program::Mode;

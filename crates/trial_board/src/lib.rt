@@ -1,5 +1,5 @@
-//! Trials of the machine of events and of the shared board, on small programs by their texts. It has
-//! tests alone.
+//! Trials of the machine of events and of the shared board, on small programs by their texts. It
+//! has tests alone.
 #![tactic(auto)]
 
 #[cfg(test)]

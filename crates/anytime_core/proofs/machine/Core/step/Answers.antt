@@ -97,7 +97,8 @@ returns-in-Meet c =
     λ xs. machine_of s.about.value s.mode s.room s.words s.log.items xs in
     let told : Actor = told_by (actor_of s.actors.items into) (actor_of s.actors.items from) in
     ap built c.step_once-in-Meet.ensures
-    ∙ ap (λ (xs : List Actor). built (slice_set xs into (steps_once (actor_of xs into) (Meet into from))))
+    ∙ ap (λ (xs : List Actor).
+    built (slice_set xs into (steps_once (actor_of xs into) (Meet into from))))
     c.tell-in-Meet.ensures
     ∙ ap built (twice s.actors.items into told (Meet into from) (search rules))
     ∙ ap (λ event. after (built s.actors.items) event) (sym c.in-Meet.is)

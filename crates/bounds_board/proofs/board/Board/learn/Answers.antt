@@ -1,4 +1,4 @@
-use Rattle.std.proofs.Common.{◌≡◌, ◌<◌, ◌∙◌, length, sym, ap, subst, arith}
+use Rattle.std.proofs.Common.{◌<◌, ◌∙◌, length, sym, ap, subst, arith}
 use Rattle.anytime_core.specs.Bits.{all_words}
 use Rattle.bounds_board.specs.Rule.{IsView}
 use Rattle.bounds_board.specs.Board.{IsSeatOf, normal_of}

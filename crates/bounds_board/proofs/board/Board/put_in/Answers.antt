@@ -1,10 +1,8 @@
-use Rattle.std.proofs.Common.{◌≡◌, ◌<◌, ◌+◌, ◌-◌, ℕ, length, sym, subst, inl, inr, arith}
+use Rattle.std.proofs.Common.{◌<◌, ◌+◌, ◌-◌, ℕ, length, sym, subst, inl, inr, arith}
 use Rattle.std.specs.Prelude.{bit_or}
-use Rattle.ground_program.specs.declared.program.Mode.{Mode}
 use Rattle.normal_program.specs.declared.normal.Normal.{Normal}
 use Rattle.anytime_core.specs.declared.event.Event.TheVariants.{ReportIn}
 use Rattle.anytime_core.specs.Bits.{words_for, all_words}
-use Rattle.anytime_core.specs.Truth.{IsTrueWord}
 use Rattle.anytime_core.proofs.BitLemmas.{bit_or_left}
 use Rattle.anytime_core.proofs.TruthLemmas.{true_or}
 use Rattle.bounds_board.specs.Board.{IsSeatOf, normal_of, mode_of}

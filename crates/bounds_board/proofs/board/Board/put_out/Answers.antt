@@ -1,6 +1,5 @@
-use Rattle.std.proofs.Common.{◌≡◌, ◌<◌, ◌+◌, ◌-◌, ℕ, length, sym, subst, inl, inr, arith}
+use Rattle.std.proofs.Common.{◌≡◌, ◌<◌, ◌+◌, ◌-◌, ℕ, length, sym, subst, inr, arith}
 use Rattle.std.specs.Prelude.{bit_or}
-use Rattle.ground_program.specs.declared.program.Mode.{Mode}
 use Rattle.normal_program.specs.declared.normal.Normal.{Normal}
 use Rattle.anytime_core.specs.declared.event.Event.TheVariants.{ReportOut}
 use Rattle.anytime_core.specs.Bits.{words_for, all_words}

@@ -1,4 +1,4 @@
-use Rattle.std.proofs.Common.{◌≡◌, ◌<◌, ◌+◌, ℕ, Bool, length, sym, ap, subst, arith, rules}
+use Rattle.std.proofs.Common.{◌≡◌, ◌<◌, ℕ, length, sym, subst, arith, rules}
 use Rattle.std.specs.Prelude.{bit_or, nat_eq}
 use Rattle.normal_program.specs.declared.normal.Normal.{Normal}
 use Rattle.anytime_core.specs.declared.event.Event.TheVariants.{ReportState}

@@ -1,6 +1,5 @@
-use Rattle.std.proofs.Common.{◌≡◌, ◌∙◌, length, subst, arith}
-use Rattle.anytime_core.specs.Bits.{words_for}
-use Rattle.bounds_board.specs.Board.{normal_of, view_of}
+use Rattle.std.proofs.Common.{◌≡◌, ◌∙◌, subst, arith}
+use Rattle.bounds_board.specs.Board.{view_of}
 use Rattle.bounds_board.proofs.ReadLemmas.{HasRead, read_met, read_encloses, read_within}
 use Rattle.bounds_board.proofs.board.Board.read_into.Goals as goal
 

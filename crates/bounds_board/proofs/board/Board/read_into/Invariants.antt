@@ -1,5 +1,4 @@
-use Rattle.std.proofs.Common.{length}
-use Rattle.bounds_board.specs.Board.{normal_of, view_of}
+use Rattle.bounds_board.specs.Board.{view_of}
 use Rattle.bounds_board.proofs.ReadLemmas.{HasRead}
 use Rattle.bounds_board.proofs.board.Board.read_into.Given as goal
 

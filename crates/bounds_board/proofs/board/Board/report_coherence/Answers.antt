@@ -1,5 +1,4 @@
-use Rattle.std.proofs.Common.{◌<◌, length, arith}
-use Rattle.anytime_core.specs.Bits.{all_words}
+use Rattle.std.proofs.Common.{arith}
 use Rattle.anytime_core.specs.Machine.{flag_of}
 use Rattle.std.specs.Prelude.{if◌then◌else◌}
 use Rattle.bounds_board.specs.Board.{view_of}

@@ -1,4 +1,4 @@
-use Rattle.std.proofs.Common.{◌≡◌, ◌<◌, ◌-◌, ◌/◌, ◌%◌, ◌^◌, ℕ, length, sym, subst, arith}
+use Rattle.std.proofs.Common.{◌<◌, ◌-◌, ◌/◌, ℕ, length, sym, subst, arith}
 use Rattle.std.proofs.lemmas.Nat.Bits.{bit_at-pow_same}
 use Rattle.normal_program.specs.declared.normal.Normal.{Normal}
 use Rattle.anytime_core.specs.Bits.{HasBit, words_for, all_words, out_place, bit_of}
@@ -18,12 +18,14 @@ returns-clause-reported c =
     let cand : ℕ = c.args.cand in
     let normal = normal_of c.args.self.now in
     let few : bit_of cand < 64 = omega arith in
-    let exists = word_exists (length normal.names) cand c.requires.cand.first c.requires.cand.last in
+    let exists =
+    word_exists (length normal.names) cand c.requires.cand.first c.requires.cand.last in
     let side : ℕ = words_for (length normal.names) in
     let within : out_place (length normal.names) cand < all_words (length normal.names) =
     (let less : (cand - 1) / 64 < side = exists in omega arith) in
     let met = c.put_out.ensures.met in
-    holds_mask (view_of c.args.seat.now) (view_of c.put_out.new.seat) _ (out_place (length normal.names) cand) met.0 _
+    holds_mask (view_of c.args.seat.now) (view_of c.put_out.new.seat) _
+    (out_place (length normal.names) cand) met.0 _
     (bit_of cand) met.1 c.put_out.ensures.viewed.0
     (subst (λ (n : Normal). out_place (length normal.names) cand < all_words (length n.names))
     (sym c.requires.seat.about) within)

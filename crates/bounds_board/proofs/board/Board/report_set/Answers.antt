@@ -1,12 +1,11 @@
-use Rattle.std.proofs.Common.{◌≡◌, ◌≤◌, ◌<◌, ◌+◌, ◌*◌, ℕ, length, sym, ap, subst, ◌∙◌, arith, rules}
+use Rattle.std.proofs.Common.{◌<◌, ◌+◌, ℕ, length, sym, subst, ◌∙◌, arith}
 use Rattle.std.specs.Prelude.{bit_or}
 use Rattle.ground_program.specs.declared.program.Mode.{Mode}
-use Rattle.ground_program.specs.declared.program.Mode.TheVariants.{Cautious, Brave}
 use Rattle.anytime_core.specs.declared.event.Event.TheVariants.{ReportIn, ReportOut}
 use Rattle.anytime_core.specs.Bits.{words_for}
 use Rattle.bounds_board.specs.Rule.{Place}
 use Rattle.bounds_board.specs.Plays.{Met}
-use Rattle.bounds_board.specs.Board.{normal_of, mode_of, view_of}
+use Rattle.bounds_board.specs.Board.{normal_of, view_of}
 use Rattle.bounds_board.proofs.ReportLemmas.{HasReported, reported_start, reported_next, side_place}
 use Rattle.bounds_board.proofs.board.Board.report_set.Goals.{in-Cautious, in-Brave}
 use Rattle.bounds_board.proofs.board.Board.report_set.Goals as goal

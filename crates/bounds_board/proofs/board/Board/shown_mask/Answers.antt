@@ -1,8 +1,9 @@
-use Rattle.std.proofs.Common.{◌≡◌, ◌<◌, ◌≤◌, ◌⊎◌, ◌-◌, ◌+◌, ℕ, List, length, sym, ap, subst, ◌∙◌, arith}
+use Rattle.std.proofs.Common.{◌≡◌, ◌<◌, ◌≤◌, ◌⊎◌, ◌-◌, ◌+◌, ℕ, length, sym, ap, subst, ◌∙◌}
+use Rattle.std.proofs.Common.{arith}
 use Rattle.std.proofs.Common.{min, inl, inr, map, ⊎_elim}
 use Rattle.std.proofs.lemmas.Bool.{cases_lt}
 use Rattle.std.proofs.lemmas.List.{length-map}
-use Rattle.std.specs.Prelude.{bit_or, slice_index}
+use Rattle.std.specs.Prelude.{bit_or}
 use Rattle.ground_program.specs.declared.program.Mode.{Mode}
 use Rattle.bounds_board.specs.Board.{normal_of, mode_of}
 use Rattle.bounds_board.proofs.MaskLemmas.{HasMask, mask_same, mask_more, mask_end}
