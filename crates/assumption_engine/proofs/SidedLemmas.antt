@@ -14,12 +14,12 @@ use Rattle.clause_store.specs.declared.literal.Lit.{Lit}
 use Rattle.clause_store.specs.declared.literal.ClauseRef.{ClauseRef}
 use Rattle.clause_store.specs.declared.literal.Value.TheVariants.{Yes, No}
 use Rattle.clause_store.specs.declared.step.Step.{Step}
-use Rattle.clause_store.specs.Clause.{is_negated, negation, variable}
+use Rattle.clause_store.specs.Clause.{is_negated, negation}
 use Rattle.clause_store.specs.Standing.{IsFalse}
 use Rattle.clause_store.specs.Trail.{Assigned, IsTrail, IsTrailOf, RisesFrom, next_level}
 use Rattle.clause_store.specs.Trail.{present_level, step_of, up_to, value_by, value_of}
 use Rattle.clause_store.proofs.BackLemmas.{front_after_back}
-use Rattle.clause_store.proofs.LiteralLemmas.{any_from, any_through, has_first, has_later}
+use Rattle.clause_store.proofs.LiteralLemmas.{any_from, any_through}
 use Rattle.clause_store.proofs.LiteralLemmas.{lit_of_code}
 use Rattle.propagator.specs.Fixpoint.{Extends}
 use Rattle.conflict_learning.specs.Analysis.{StandsIn}

@@ -1,4 +1,3 @@
-use Rattle.std.proofs.Common.{refl, subst, ◌∙◌}
 use Rattle.assumption_engine.proofs.SameLemmas.{right_asked, right_propagated}
 use Rattle.assumption_engine.proofs.engine.Engine.next_task.Goals as goal
 
