@@ -1,6 +1,7 @@
 -- What is true by assumptions alone: how the order of what was made true is kept, and what it says
 -- of one-sided variables.
-use Rattle.std.proofs.Common.{◌≡◌, ℕ, ◌+◌, ◌*◌, ◌%◌, ◌/◌, Bool, true, false, cond, eqb, List, [], ◌∷◌}
+use Rattle.std.proofs.Common.{◌≡◌, ℕ, ◌+◌, ◌*◌, ◌%◌, ◌/◌, Bool, true, false, cond, eqb, List, []}
+use Rattle.std.proofs.Common.{◌∷◌}
 use Rattle.std.proofs.Common.{◌++◌, ◌⊎◌, get_or, Option, Some, None, refl, sym, ap, ◌∙◌, subst}
 use Rattle.std.proofs.Common.{inl, inr, arith}
 use Rattle.std.specs.Prelude.{All, Contains, IsSome}
@@ -292,7 +293,8 @@ opposed clauses assumed steps clause order all_false =
     clause all_false
 
 -- in what is learned, one-sided variables stand only negated, and only where they are assumed
-pub learned_as_assumed : (IsKind : List Lit → Type 0) (clauses : List (List Lit)) (assumed : List Lit)
+pub learned_as_assumed : (IsKind : List Lit → Type 0) (clauses : List (List Lit))
+    (assumed : List Lit)
     (clause : List Lit) → All (StandsIn clauses) clause → AreOpposed clauses assumed clause
     → AreAsAssumed IsKind clauses assumed clause
 learned_as_assumed IsKind clauses assumed clause stand opposites var is =
