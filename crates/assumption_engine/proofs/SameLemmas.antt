@@ -1,5 +1,6 @@
 -- What stays where a theory means the same.
-use Rattle.std.proofs.Common.{◌≡◌, Bool, false, ◌≤◌, List, [], ◌∷◌, ◌++◌, length, refl, sym, ap, ◌∙◌}
+use Rattle.std.proofs.Common.{◌≡◌, Bool, false, ◌≤◌, List, [], ◌∷◌, ◌++◌, length, refl, sym, ap}
+use Rattle.std.proofs.Common.{◌∙◌}
 use Rattle.std.proofs.Common.{subst, arith, length-take}
 use Rattle.std.specs.Prelude.{map}
 use Rattle.std.proofs.lemmas.List.{length-map, take-append-le}
@@ -100,6 +101,15 @@ right_propagated {meaning} {followed} {old} {new} {defined} is by =
     (by.dead ∙ is.alive) by.clauses by.extends.vars
     (subst (λ steps. AreFollowed steps followed) (sym by.extends.steps)
     (followed_more old.trail.steps by.extends.added followed is.follows))
+
+-- the theory was asked at the trail
+pub right_asked : {one two : Meaning} {before after : List Followed} {state : Searched}
+    {defined : List (List Lit)} {trail : Assigned} → IsRight one before state defined
+    → MeansTheSame one two → trail ≡ state.trail → AreFollowed trail.steps after
+    → IsRight two after state defined
+right_asked {one} {two} {before} {after} {state} {defined} {trail} is same at follows =
+    right_moved one two before after state state defined same is is.alive refl refl
+    (subst (λ t. AreFollowed t.steps after) at follows)
 
 -- a state with an assignment put last
 abbrev pub pushed : Searched → Step → Searched
