@@ -1,4 +1,3 @@
-use Rattle.std.proofs.Common.{◌≡◌, ◌<◌, length, get_or, rules, subst, sym}
 use Rattle.unfounded_sets.proofs.FoundingLemmas.{below_by}
 use Rattle.unfounded_sets.proofs.founding.found_first.Goals as goal
 use Rattle.unfounded_sets.proofs.founding.found_first.Goals.{then-weight-eq0, else-weight-eq0}

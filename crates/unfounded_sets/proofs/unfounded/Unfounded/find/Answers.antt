@@ -1,4 +1,4 @@
-use Rattle.unfounded_sets.proofs.LoopLemmas.{covers, loop_part, given_loop}
+use Rattle.unfounded_sets.proofs.LoopLemmas.{covers, loop_part}
 use Rattle.unfounded_sets.proofs.unfounded.Unfounded.find.Goals as goal
 
 pub unfounded_atom-requires-clause-covered : goal.unfounded_atom-requires-clause-covered
