@@ -1,0 +1,37 @@
+use Rattle.std.proofs.Common.{◌∙◌, sym, ap, subst, slice_index, slice_set, take}
+use Rattle.search_heuristics.specs.Places.{AreTrueBefore, AreTrueOn}
+use Rattle.search_heuristics.proofs.PlaceLemmas as lemma
+use Rattle.search_heuristics.proofs.assumption_places.AssumptionPlaces.next.Goals as goal
+
+pub first_not_true-place-requires-clause-before :
+    goal.first_not_true-place-requires-clause-before
+first_not_true-place-requires-clause-before c =
+    subst (λ place. AreTrueOn c.args.trail.now.steps (take place c.args.assumed.now))
+    (sym (c.place_at.ensures ∙ ap (slice_index c.args.self.now) c.level-level.ensures.level))
+    (lemma.before_present c.args.assumed.now c.args.trail.now.steps c.args.self.now
+    c.requires.before)
+
+pub returns-then-place-assumed-clause-before : goal.returns-then-place-assumed-clause-before
+returns-then-place-assumed-clause-before c =
+    subst (AreTrueBefore c.args.assumed.now c.args.trail.now.steps)
+    (sym
+    (c.keep.ensures
+    ∙ ap (λ level. slice_set c.args.self.now level c.first_not_true-place.result)
+    c.level-level.ensures.level))
+    (lemma.before_kept c.args.assumed.now c.args.trail.now.steps c.args.self.now
+    c.first_not_true-place.result c.requires.before c.first_not_true-place.ensures.before)
+
+pub returns-else-place-assumed-clause-before : goal.returns-else-place-assumed-clause-before
+returns-else-place-assumed-clause-before c =
+    subst (AreTrueBefore c.args.assumed.now c.args.trail.now.steps)
+    (sym
+    (c.keep.ensures
+    ∙ ap (λ level. slice_set c.args.self.now level c.first_not_true-place.result)
+    c.level-level.ensures.level))
+    (lemma.before_kept c.args.assumed.now c.args.trail.now.steps c.args.self.now
+    c.first_not_true-place.result c.requires.before c.first_not_true-place.ensures.before)
+
+pub returns-else-place-assumed-clause-none : goal.returns-else-place-assumed-clause-none
+returns-else-place-assumed-clause-none c =
+    lemma.all_true c.args.trail.now.steps c.args.assumed.now c.first_not_true-place.result
+    c.if-place-assumed.false c.first_not_true-place.ensures.before

@@ -1,0 +1,5 @@
+use Rattle.search_heuristics.proofs.PlaceLemmas as lemma
+use Rattle.search_heuristics.proofs.laws.places_after_back.Goals as goal
+
+pub returns : goal.returns
+returns c = lemma.places_after_back
