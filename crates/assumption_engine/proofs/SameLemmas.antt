@@ -9,9 +9,8 @@ use Rattle.clause_store.specs.Clause.{Meets}
 use Rattle.clause_store.specs.Laws.{AreMoreClauses}
 use Rattle.clause_store.specs.Standing.{AreFollowed, Followed, as_followed}
 use Rattle.clause_store.specs.Trail.{Assigned}
-use Rattle.propagator.specs.Fixpoint.{Extends}
 use Rattle.assumption_engine.specs.Theory.{IsGiven, Meaning, MeansTheSame}
-use Rattle.assumption_engine.specs.Engine.{IsModelOf, IsRight}
+use Rattle.assumption_engine.specs.Engine.{HasPropagated, IsModelOf, IsRight}
 use Rattle.search_state.specs.State.{Searched}
 
 pub same_itself : (meaning : Meaning) → MeansTheSame meaning meaning
@@ -92,15 +91,15 @@ pub none_followed : (steps : List Step) (followed : List Followed) → followed 
 none_followed steps followed none =
     subst (AreFollowed steps) (sym none) refl
 
-pub right_extended : (meaning : Meaning) (followed : List Followed) (old new : Searched)
-    (defined : List (List Lit)) → IsRight meaning followed old defined
-    → new ≡ record old { trail = new.trail } → Extends old.trail new.trail
+-- the clauses were propagated
+pub right_propagated : {meaning : Meaning} {followed : List Followed} {old new : Searched}
+    {defined : List (List Lit)} → IsRight meaning followed old defined → HasPropagated old new
     → IsRight meaning followed new defined
-right_extended meaning followed old new defined is rest extends =
+right_propagated {meaning} {followed} {old} {new} {defined} is by =
     right_moved meaning meaning followed followed old new defined (same_itself meaning) is
-    (ap (λ s. s.dead) rest ∙ is.alive) (ap (λ s. s.clauses) rest) extends.vars
-    (subst (λ steps. AreFollowed steps followed) (sym extends.steps)
-    (followed_more old.trail.steps extends.added followed is.follows))
+    (by.dead ∙ is.alive) by.clauses by.extends.vars
+    (subst (λ steps. AreFollowed steps followed) (sym by.extends.steps)
+    (followed_more old.trail.steps by.extends.added followed is.follows))
 
 -- a state with an assignment put last
 abbrev pub pushed : Searched → Step → Searched

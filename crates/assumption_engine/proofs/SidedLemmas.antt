@@ -2,13 +2,13 @@
 -- of one-sided variables.
 use Rattle.std.proofs.Common.{◌≡◌, ℕ, ◌+◌, ◌*◌, ◌%◌, Bool, true, false, cond, eqb, List, [], ◌∷◌}
 use Rattle.std.proofs.Common.{◌++◌, ◌⊎◌, get_or, Option, Some, None, refl, sym, ap, ◌∙◌, subst}
-use Rattle.std.proofs.Common.{inl, inr, arith, length}
-use Rattle.std.specs.Prelude.{All, Contains, find, IsSome, slice_get}
+use Rattle.std.proofs.Common.{inl, inr, arith}
+use Rattle.std.specs.Prelude.{All, Contains, find, IsSome}
 use Rattle.std.proofs.lemmas.Bool.{eqb-true, eq-eqb, false≢true}
 use Rattle.std.proofs.lemmas.List.Elements.{All-append, All-cons, All-contains, All-contains_itself}
 use Rattle.std.proofs.lemmas.List.Elements.{All-nil, All-push, All-weaker}
-use Rattle.std.proofs.lemmas.List.Elements.{Contains-append_left, Contains-append_right}
-use Rattle.std.proofs.lemmas.List.Elements.{Contains-push, Contains-push_cases}
+use Rattle.std.proofs.lemmas.List.Elements.{Contains-append_left}
+use Rattle.std.proofs.lemmas.List.Elements.{Contains-push_cases}
 use Rattle.std.proofs.lemmas.Option.{same_Some, slice_get-get_or}
 use Rattle.clause_store.specs.declared.literal.Lit.{Lit}
 use Rattle.clause_store.specs.declared.literal.ClauseRef.{ClauseRef}
@@ -29,7 +29,7 @@ use Rattle.search_state.proofs.AssumedLemmas.{first_push}
 use Rattle.assumption_engine.specs.Theory.{MeansTheSame, Meaning}
 use Rattle.assumption_engine.specs.Task.{IsNext}
 use Rattle.assumption_engine.specs.Sided.{AreAsAssumed, AreInOrder, AreOpposed, AreTrueAsAssumed}
-use Rattle.assumption_engine.specs.Sided.{IsAssumedOrFree, IsFree, IsOneSided, negative, positive}
+use Rattle.assumption_engine.specs.Sided.{IsAssumedOrFree, IsOneSided, negative, positive}
 
 -- ---- literals that stand in clauses
 

@@ -1,6 +1,6 @@
 -- What one call of a search comes to, by what its parts say.
 use Rattle.std.proofs.Common.{◌≡◌, ◌<◌, ℕ, List, [], ◌∷◌, ◌++◌, length, inr, refl, sym, ap, ◌∙◌}
-use Rattle.std.proofs.Common.{◌≤◌, ◌⊎◌, subst, arith}
+use Rattle.std.proofs.Common.{◌≤◌, ◌⊎◌, subst}
 use Rattle.std.specs.Prelude.{All, Contains, Result, Ok, Err, OnOk, IfOk}
 use Rattle.clause_store.specs.declared.literal.Lit.{Lit}
 use Rattle.clause_store.specs.declared.literal.Value.TheVariants.{Unset}
@@ -181,15 +181,14 @@ turned_still {one} {two} {before} {after} {state} {defined} {assumed} {stop} {co
     }
 
 -- a turn that goes on after propagation
-pub turned_on : {E : Type 0} {one two : Meaning} {old mid : Searched}
-    {was defined : List (List Lit)} (three : Meaning) (followed : List Followed)
-    (there : List (List Lit)) (assumed : List Lit) (stop : ℕ) (new : Searched)
-    (counted after : Counted) (result : Result Turn E) → MeansTheSame one two → was ≡ defined
-    → HasPropagated old mid
-    → IfOk result (HasTurned two three followed was there assumed stop mid new counted after)
-    → IfOk result (HasTurned one three followed defined there assumed stop old new counted after)
-turned_on {E} {one} {two} {old} {mid} {was} {defined} three followed there assumed stop new counted
-    after (Ok turn) same kept by is =
+pub turned_on : {one two : Meaning} {old mid : Searched} {was defined : List (List Lit)}
+    (three : Meaning) (followed : List Followed) (there : List (List Lit)) (assumed : List Lit)
+    (stop : ℕ) (new : Searched) (counted after : Counted) (turn : Turn) → MeansTheSame one two
+    → was ≡ defined → HasPropagated old mid
+    → HasTurned two three followed was there assumed stop mid new counted after turn
+    → HasTurned one three followed defined there assumed stop old new counted after turn
+turned_on {one} {two} {old} {mid} {was} {defined} three followed there assumed stop new counted
+    after turn same kept by is =
     record {
       right = is.right;
       on =
@@ -200,7 +199,18 @@ turned_on {E} {one} {two} {old} {mid} {was} {defined} three followed there assum
           (turn_then one two was assumed stop old mid new after turn same by.clauses
           (weight_propagated by) is.does);
     }
-turned_on three followed there assumed stop new counted after (Err e) same kept by is = is
+
+pub if_turned_on : {E : Type 0} {one two : Meaning} {old mid : Searched}
+    {was defined : List (List Lit)} (three : Meaning) (followed : List Followed)
+    (there : List (List Lit)) (assumed : List Lit) (stop : ℕ) (new : Searched)
+    (counted after : Counted) (result : Result Turn E) → MeansTheSame one two → was ≡ defined
+    → HasPropagated old mid
+    → IfOk result (HasTurned two three followed was there assumed stop mid new counted after)
+    → IfOk result (HasTurned one three followed defined there assumed stop old new counted after)
+if_turned_on {E} {one} {two} {old} {mid} {was} {defined} three followed there assumed stop new
+    counted after (Ok turn) same kept by is =
+    turned_on three followed there assumed stop new counted after turn same kept by is
+if_turned_on three followed there assumed stop new counted after (Err e) same kept by is = is
 
 -- a turn that learned
 pub turned_learned : {E : Type 0} (one two : Meaning) (followed : List Followed)

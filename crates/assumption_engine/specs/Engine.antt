@@ -78,6 +78,7 @@ pub record WentBack (level : ℕ) (old new : Searched) : Type 0 where
 -- the clauses were propagated: forced assignments came last
 pub record HasPropagated (old new : Searched) : Type 0 where
   pub clauses : new.clauses ≡ old.clauses
+  pub dead : new.dead ≡ old.dead
   pub extends : Extends old.trail new.trail
   pub is_trail : IsTrail new.trail
   pub of_store : IsTrailOf new.trail.steps new.clauses

@@ -36,6 +36,7 @@ impl<T: Theory> Engine<T> {
         ensures err { OnErr result (self.new.dead ≡ true) }
     {
         self.begin()?;
+        let _vars = self.state.trail().vars();
         let clause = clause_of(alloc, selector, any)?;
         self.state.add(alloc, clause.as_slice())?;
         self.defined.push(alloc, clause)?;

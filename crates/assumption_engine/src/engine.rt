@@ -88,24 +88,6 @@ impl<T: Theory> Engine<T> {
         self.theory.undo(self.state.trail());
     }
 
-    /// Assigns what the clauses force. The answer is a clause that is false, if there is one then.
-    pub(crate) fn propagate(&mut self) -> Option<ClauseRef>
-        requires right { IsRight (T.meaning self.old.theory) (T.followed self.old.theory)
-            self.old.state self.old.defined }
-        ensures right { IsRight (T.meaning self.new.theory) (T.followed self.new.theory)
-            self.new.state self.new.defined }
-        ensures none { IfNone result
-            (IsFixpoint self.new.state.clauses self.new.state.trail.steps) }
-        ensures some { IfSome result
-            (IsConflict self.new.state.clauses self.new.state.trail.steps) }
-        ensures propagated { HasPropagated self.old.state self.new.state }
-        ensures rest { self.new ≡ record self.old { state = self.new.state } }
-    {
-        let conflict = self.state.propagate();
-        self.state.vouch();
-        conflict
-    }
-
     /// Goes back to level 0, or says that memory ran out before. The engine is dead until its
     /// caller is done.
     pub(crate) fn begin(&mut self) -> Result<(), NoMemory>
@@ -128,4 +110,16 @@ impl<T: Theory> Engine<T> {
         self.go_back(0);
         Ok(())
     }
+}
+
+/// Assigns what the clauses force. The answer is a clause that is false, if there is one then.
+pub(crate) fn propagate(state: &mut SearchState) -> Option<ClauseRef>
+    requires alive { state.old.dead ≡ false }
+    ensures none { IfNone result (IsFixpoint state.new.clauses state.new.trail.steps) }
+    ensures some { IfSome result (IsConflict state.new.clauses state.new.trail.steps) }
+    ensures propagated { HasPropagated state.old state.new }
+{
+    let conflict = state.propagate();
+    state.vouch();
+    conflict
 }

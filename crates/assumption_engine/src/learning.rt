@@ -10,7 +10,7 @@ ghost use Rattle.assumption_engine.specs.Sided.{AreInOrder, AreOpposed};
 ghost use Rattle.assumption_engine.specs.Answer.{HasRoom, HasTaken, IsStopping, IsTurn};
 
 use crate::answer::{Answer, Turn};
-use crate::engine::Engine;
+use crate::engine::{Engine, propagate};
 use crate::theory::Theory;
 use clause_store::{Budget, Clause, ClauseRef, Value};
 use conflict_learning::{analyse, greatest_level};
@@ -56,7 +56,7 @@ impl<T: Theory> Engine<T> {
                 return Ok(Turn::Ended(Answer::Core(Clause::open())));
             }
             self.resolve(alloc, conflict, level)?;
-            match self.propagate() {
+            match propagate(&mut self.state) {
                 Some(next) => conflict = next,
                 None => return self.take_learned(alloc, budget, stop),
             }

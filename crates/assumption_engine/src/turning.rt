@@ -7,7 +7,7 @@ ghost use Rattle.assumption_engine.specs.Task.{IsTask};
 ghost use Rattle.assumption_engine.specs.Answer.{HasTurned, MayTurn};
 
 use crate::answer::{Answer, Turn};
-use crate::engine::Engine;
+use crate::engine::{Engine, propagate};
 use crate::task::Task;
 use crate::theory::Theory;
 use clause_store::{Budget, Lit, Says};
@@ -60,7 +60,7 @@ impl<T: Theory> Engine<T> {
             self.new.state self.new.given) }
         ensures dead { self.new.dead ≡ self.old.dead }
     {
-        if let Some(conflict) = self.propagate() {
+        if let Some(conflict) = propagate(&mut self.state) {
             return Ok(Task::Learn(conflict));
         }
         match self

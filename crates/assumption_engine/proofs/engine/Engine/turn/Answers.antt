@@ -1,6 +1,7 @@
-use Rattle.std.proofs.Common.{Ok, refl, ◌∙◌}
+use Rattle.std.proofs.Common.{refl, subst}
 use Rattle.std.proofs.lemmas.List.Elements.{All-contains}
 use Rattle.clause_store.specs.Clause.{IsOver}
+use Rattle.assumption_engine.specs.Task.{IsTask, MayDecide, MustRefuse}
 use Rattle.assumption_engine.specs.declared.answer.Answer.TheVariants.{Core}
 use Rattle.assumption_engine.specs.declared.answer.Turn.TheVariants.{Going, Ended}
 use Rattle.assumption_engine.proofs.AnswerLemmas.{core_of, room_below}
@@ -8,11 +9,11 @@ use Rattle.assumption_engine.proofs.GoingLemmas.{counted_none}
 use Rattle.assumption_engine.proofs.SameLemmas.{same_itself, same_then}
 use Rattle.assumption_engine.proofs.StepLemmas.{counted_on, goes_on_propagated, may_turn_on}
 use Rattle.assumption_engine.proofs.StepLemmas.{order_propagated, turned_decided, turned_given}
-use Rattle.assumption_engine.proofs.StepLemmas.{turned_learned, turned_on, turned_still}
+use Rattle.assumption_engine.proofs.StepLemmas.{if_turned_on, turned_learned, turned_on, turned_still}
 use Rattle.assumption_engine.proofs.engine.Engine.turn.Goals as goal
 
-pub returns-in_err-next_task-clause-counted : goal.returns-in_err-next_task-clause-counted
-returns-in_err-next_task-clause-counted g c =
+pub returns-in_err-conflict-clause-counted : goal.returns-in_err-conflict-clause-counted
+returns-in_err-conflict-clause-counted g c =
     counted_none (g.T.Theory.meaning c.args.self.now.theory) c.args.assumed.now
     c.args.self.now.defined c.args.self.now.state.clauses c.args.budget.now c.args.budget.now refl
 
@@ -25,13 +26,13 @@ returns-in-Learn-clause-same g c =
 pub returns-in-Learn-clause-counted : goal.returns-in-Learn-clause-counted
 returns-in-Learn-clause-counted g c =
     counted_on c.next_task.ensures.defined c.next_task.ensures.same
-    c.in_ok-next_task.ensures.right (goes_on_propagated c.next_task.ensures.propagated)
+    c.in_ok-conflict.ensures.right (goes_on_propagated c.next_task.ensures.propagated)
     (c.learn_from.ensures.counted c.args.assumed.now
     (order_propagated c.next_task.ensures.propagated c.requires.may.order))
 
 pub returns-in-Learn-clause-turn : goal.returns-in-Learn-clause-turn
 returns-in-Learn-clause-turn g c =
-    turned_on (g.T.Theory.meaning c.learn_from.new.self.theory) (g.T.Theory.followed c.learn_from.new.self.theory)
+    if_turned_on (g.T.Theory.meaning c.learn_from.new.self.theory) (g.T.Theory.followed c.learn_from.new.self.theory)
     c.learn_from.new.self.defined c.args.assumed.now c.args.stop c.learn_from.new.self.state c.args.budget.now c.learn_from.new.budget
     c.learn_from.result c.next_task.ensures.same c.next_task.ensures.defined
     c.next_task.ensures.propagated
@@ -57,7 +58,7 @@ returns-in-Take-clause-counted g c =
 
 pub returns-in-Take-clause-turn : goal.returns-in-Take-clause-turn
 returns-in-Take-clause-turn g c =
-    turned_on (g.T.Theory.meaning c.take_given.new.self.theory) (g.T.Theory.followed c.take_given.new.self.theory)
+    if_turned_on (g.T.Theory.meaning c.take_given.new.self.theory) (g.T.Theory.followed c.take_given.new.self.theory)
     c.take_given.new.self.defined c.args.assumed.now c.args.stop c.take_given.new.self.state c.args.budget.now c.args.budget.now
     c.take_given.result c.next_task.ensures.same c.next_task.ensures.defined
     c.next_task.ensures.propagated
@@ -69,37 +70,47 @@ returns-in-Take-clause-turn g c =
 
 pub core-requires-clause-over : goal.core-requires-clause-over
 core-requires-clause-over g c =
+    let task : MustRefuse c.args.assumed.now c.next_task.new.self.state.trail.steps c.in-Refuse.lit =
+    subst
+    (IsTask (g.T.Theory.meaning c.next_task.new.self.theory) c.args.assumed.now
+    c.next_task.new.self.state c.next_task.new.self.given) c.in-Refuse.is
+    c.in_ok-conflict.ensures.task in
     let may =
-    may_turn_on c.next_task.ensures.propagated c.in_ok-next_task.ensures.right c.requires.may in
+    may_turn_on c.next_task.ensures.propagated c.in_ok-conflict.ensures.right c.requires.may in
     All-contains (IsOver c.next_task.new.self.state.trail.vars) c.args.assumed.now c.in-Refuse.lit
-    may.over c.in-Refuse.ensures.task.among
+    may.over task.among
 
 pub returns-in_err-core-in-Refuse-clause-counted : goal.returns-in_err-core-in-Refuse-clause-counted
 returns-in_err-core-in-Refuse-clause-counted g c =
     counted_none (g.T.Theory.meaning c.args.self.now.theory) c.args.assumed.now
     c.args.self.now.defined c.args.self.now.state.clauses c.args.budget.now c.args.budget.now refl
 
-pub returns-in-Refuse-clause-counted : goal.returns-in-Refuse-clause-counted
-returns-in-Refuse-clause-counted g c =
+pub returns-in_ok-core-in-Refuse-clause-counted : goal.returns-in_ok-core-in-Refuse-clause-counted
+returns-in_ok-core-in-Refuse-clause-counted g c =
     counted_none (g.T.Theory.meaning c.args.self.now.theory) c.args.assumed.now
     c.args.self.now.defined c.args.self.now.state.clauses c.args.budget.now c.args.budget.now refl
 
-pub returns-in-Refuse-clause-turn : goal.returns-in-Refuse-clause-turn
-returns-in-Refuse-clause-turn g c =
+pub returns-in_ok-core-in-Refuse-clause-turn : goal.returns-in_ok-core-in-Refuse-clause-turn
+returns-in_ok-core-in-Refuse-clause-turn g c =
+    let task : MustRefuse c.args.assumed.now c.next_task.new.self.state.trail.steps c.in-Refuse.lit =
+    subst
+    (IsTask (g.T.Theory.meaning c.next_task.new.self.theory) c.args.assumed.now
+    c.next_task.new.self.state c.next_task.new.self.given) c.in-Refuse.is
+    c.in_ok-conflict.ensures.task in
     turned_on (g.T.Theory.meaning c.next_task.new.self.theory) (g.T.Theory.followed c.next_task.new.self.theory)
     c.next_task.new.self.defined c.args.assumed.now c.args.stop c.next_task.new.self.state
-    c.args.budget.now c.args.budget.now (Ok (Ended (Core c.in_ok-core.core)))
+    c.args.budget.now c.args.budget.now (Ended (Core c.in_ok-core-in-Refuse.field-0))
     c.next_task.ensures.same c.next_task.ensures.defined c.next_task.ensures.propagated
-    (turned_still (same_itself (g.T.Theory.meaning c.next_task.new.self.theory)) c.in_ok-next_task.ensures.right
-    c.in_ok-next_task.ensures.right.follows
+    (turned_still (same_itself (g.T.Theory.meaning c.next_task.new.self.theory)) c.in_ok-conflict.ensures.right
+    c.in_ok-conflict.ensures.right.follows
     (record {
       says =
           core_of (g.T.Theory.meaning c.next_task.new.self.theory) (g.T.Theory.followed c.next_task.new.self.theory)
           c.next_task.new.self.state c.next_task.new.self.defined c.args.assumed.now
-          c.in-Refuse.lit c.in_ok-core.core c.in_ok-next_task.ensures.right
+          c.in-Refuse.lit c.in_ok-core-in-Refuse.field-0 c.in_ok-conflict.ensures.right
           (order_propagated c.next_task.ensures.propagated c.requires.may.order).first
-          c.in-Refuse.ensures.task.among c.in-Refuse.ensures.task.is_false
-          c.in_ok-core.ensures.core c.in_ok-core.ensures.unmet;
+          task.among task.is_false
+          c.in_ok-core-in-Refuse.ensures.core c.in_ok-core-in-Refuse.ensures.unmet;
       counted = room_below c.args.stop c.args.budget.now c.requires.may.room;
     }))
 
@@ -110,16 +121,22 @@ returns-in-Decide-clause-counted g c =
 
 pub returns-in-Decide-clause-turn : goal.returns-in-Decide-clause-turn
 returns-in-Decide-clause-turn g c =
+    let task : MayDecide c.next_task.new.self.state.clauses c.args.assumed.now
+    c.next_task.new.self.state.trail c.in-Decide.lit =
+    subst
+    (IsTask (g.T.Theory.meaning c.next_task.new.self.theory) c.args.assumed.now
+    c.next_task.new.self.state c.next_task.new.self.given) c.in-Decide.is
+    c.in_ok-conflict.ensures.task in
     turned_on (g.T.Theory.meaning c.next_task.new.self.theory) (g.T.Theory.followed c.next_task.new.self.theory)
     c.next_task.new.self.defined c.args.assumed.now c.args.stop c.decide.new.self
-    c.args.budget.now c.args.budget.now (Ok Going)
+    c.args.budget.now c.args.budget.now Going
     c.next_task.ensures.same c.next_task.ensures.defined c.next_task.ensures.propagated
-    (turned_decided _ c.in_ok-next_task.ensures.right c.decide.ensures
-    c.in-Decide.ensures.task.turn c.requires.may.room.below)
+    (turned_decided _ c.in_ok-conflict.ensures.right c.decide.ensures
+    task.turn c.requires.may.room.below)
 
 pub check_total-requires-clause-may : goal.check_total-requires-clause-may
 check_total-requires-clause-may g c =
-    may_turn_on c.next_task.ensures.propagated c.in_ok-next_task.ensures.right c.requires.may
+    may_turn_on c.next_task.ensures.propagated c.in_ok-conflict.ensures.right c.requires.may
 
 pub returns-in-Check-clause-same : goal.returns-in-Check-clause-same
 returns-in-Check-clause-same g c =
@@ -134,7 +151,7 @@ returns-in-Check-clause-counted g c =
 
 pub returns-in-Check-clause-turn : goal.returns-in-Check-clause-turn
 returns-in-Check-clause-turn g c =
-    turned_on (g.T.Theory.meaning c.check_total.new.self.theory) (g.T.Theory.followed c.check_total.new.self.theory)
+    if_turned_on (g.T.Theory.meaning c.check_total.new.self.theory) (g.T.Theory.followed c.check_total.new.self.theory)
     c.check_total.new.self.defined c.args.assumed.now c.args.stop c.check_total.new.self.state c.args.budget.now c.args.budget.now
     c.check_total.result c.next_task.ensures.same c.next_task.ensures.defined
     c.next_task.ensures.propagated
