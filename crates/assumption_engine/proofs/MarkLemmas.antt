@@ -1,5 +1,5 @@
 -- Marks at variables that stand unnegated in clauses, and the literals that are chosen by them.
-use Rattle.std.proofs.Common.{◌≡◌, ◌<◌, ◌⊎◌, ◌+◌, ◌*◌, ◌%◌, ◌/◌, ℕ, suc, Bool, true, false, not, eqb}
+use Rattle.std.proofs.Common.{◌≡◌, ◌≢◌, ◌<◌, ◌⊎◌, ◌+◌, ◌*◌, ◌%◌, ◌/◌, ℕ, suc, Bool, true, false, not, eqb}
 use Rattle.std.proofs.Common.{List, [], ◌∷◌, ◌++◌, length, get_or, replicate, set, take, refl, sym}
 use Rattle.std.proofs.Common.{ap, ◌∙◌, subst, inl, inr, arith}
 use Rattle.std.specs.Prelude.{All, Any, Contains}
@@ -8,14 +8,14 @@ use Rattle.std.proofs.lemmas.Bool.{cases_eq, cases_lt, eqb-false, false≢true}
 use Rattle.std.proofs.lemmas.List.{get_or-replicate, get_or-set_other, get_or_past}
 use Rattle.std.proofs.lemmas.List.{length-replicate}
 use Rattle.std.proofs.lemmas.List.Elements.{All-contains_itself, All-weaker, Contains-append_left}
-use Rattle.std.proofs.lemmas.List.Elements.{Contains-push}
+use Rattle.std.proofs.lemmas.List.Elements.{Contains-append_right, Contains-push}
 use Rattle.clause_store.specs.declared.literal.Lit.{Lit}
 use Rattle.clause_store.specs.declared.literal.Value.TheVariants.{Unset}
 use Rattle.clause_store.specs.declared.step.Step.{Step}
 use Rattle.clause_store.specs.Clause.{is_negated, negation, variable}
 use Rattle.clause_store.specs.Clause.{IsOver}
 use Rattle.clause_store.specs.Trail.{Assigned, step_of, value_by, value_of}
-use Rattle.clause_store.proofs.LiteralLemmas.{any_from, lit_of_code}
+use Rattle.clause_store.proofs.LiteralLemmas.{any_from, has_first, lit_of_code}
 use Rattle.clause_store.proofs.StepLemmas.{step_of_unset}
 use Rattle.conflict_learning.specs.Analysis.{StandsIn}
 use Rattle.search_state.specs.State.{Searched}
@@ -27,6 +27,13 @@ use Rattle.assumption_engine.specs.declared.task.Task.TheVariants.{Check}
 use Rattle.assumption_engine.specs.Sided.{positive}
 use Rattle.assumption_engine.specs.Marks.{AreMarkedIn, IsMarked, MarksOne, MarksOnly}
 use Rattle.assumption_engine.proofs.SidedLemmas.{stands_later}
+
+-- one element more is taken
+pub taken_next : {X : Type 0} (xs : List X) (at : ℕ) (d : X) → at < length xs
+    → take (at + 1) xs ≡ take at xs ++ get_or xs at d ∷ []
+taken_next xs at d within =
+    let next : at + 1 ≡ suc at = omega arith in
+    ap (λ n. take n xs) next ∙ take-suc xs at d within
 
 -- at first nothing is marked
 pub none_marked : (marks : List Bool) (count : ℕ) → marks ≡ replicate count false
@@ -65,43 +72,43 @@ unnegated_is_positive lit is =
     let even : lit.0 % 2 ≢ 1 = eqb-false (lit.0 % 2) 1 is in
     lit_of_code lit (positive (variable lit)) (omega arith)
 
--- no literal was looked at
-pub marks_none : (marks : List Bool) (clause : List Lit) → MarksOnly (take 0 clause) marks marks
-marks_none marks clause = record { from = λ var marked. inl marked }
-
--- the next one was
-pub marks_more : (clause : List Lit) (at : ℕ) (d : Lit) (old now : List Bool) → at < length clause
-    → MarksOnly (take at clause) old now → MarksOnly (take (suc at) clause) old now
-marks_more clause at d old now within is =
-    record {
-      from =
-          λ var marked. elim (is.from var marked) [
-            | inl before ↦ inl before
-            | inr here ↦ inr
-                (subst (λ part. Contains part (positive var)) (sym (take-suc clause at d within))
-                (Contains-append_left (take at clause) (get_or clause at d ∷ []) (positive var)
-                here))
-          ];
-    }
-
-pub marks_next : (clause : List Lit) (at : ℕ) (d : Lit) (old now new : List Bool)
-    → at < length clause → is_negated (get_or clause at d) ≡ false
-    → MarksOne (variable (get_or clause at d)) now new → MarksOnly (take at clause) old now
-    → MarksOnly (take (suc at) clause) old new
-marks_next clause at d old now new within unnegated one is =
+-- so only the unnegated literal of a variable is marked
+pub marks_unnegated : (lit : Lit) (old new : List Bool) → is_negated lit ≡ false
+    → MarksOne (variable lit) old new → MarksOnly (lit ∷ []) old new
+marks_unnegated lit old new unnegated one =
     record {
       from =
           λ var marked. elim (one.from var marked) [
-            | inl before ↦ (marks_more clause at d old now within is).from var before
-            | inr same ↦
-                inr
-                (subst (λ lit. Contains (take (suc at) clause) lit)
-                (unnegated_is_positive (get_or clause at d) unnegated ∙ ap positive (sym same))
-                (subst (λ part. Contains part (get_or clause at d))
-                (sym (take-suc clause at d within))
-                (Contains-push (take at clause) (get_or clause at d))))
+            | inl before ↦ inl before
+            | inr same ↦ inr
+                (subst (λ var. Contains (lit ∷ []) (positive var)) (sym same)
+                (subst (Contains (lit ∷ [])) (unnegated_is_positive lit unnegated)
+                (has_first lit [])))
           ];
     }
+
+-- one literal after the others
+pub marks_next : (clause : List Lit) (at : ℕ) (d : Lit) (old now new : List Bool)
+    → at < length clause → MarksOnly (take at clause) old now
+    → MarksOnly (get_or clause at d ∷ []) now new → MarksOnly (take (at + 1) clause) old new
+marks_next clause at d old now new within early late =
+    let more : take (at + 1) clause ≡ take at clause ++ get_or clause at d ∷ [] =
+    taken_next clause at d within in
+    subst (λ part. MarksOnly part old new) (sym more)
+    (record {
+      from =
+          λ var marked. elim (late.from var marked) [
+            | inl before ↦ elim (early.from var before) [
+              | inl first ↦ inl first
+              | inr here ↦ inr
+                  (Contains-append_left (take at clause) (get_or clause at d ∷ []) (positive var)
+                  here)
+            ]
+            | inr here ↦ inr
+                (Contains-append_right (take at clause) (get_or clause at d ∷ []) (positive var)
+                here)
+          ];
+    })
 
 -- a clause came
 pub marked_with : (clauses : List (List Lit)) (clause : List Lit) (old new : List Bool)

@@ -1,5 +1,5 @@
 // Marks at variables that stand unnegated in some clause.
-ghost use Rattle.std.specs.Prelude.{◌≡◌, ◌<◌, ◌^◌, ◌↔◌, IfOk, IsTrue};
+ghost use Rattle.std.specs.Prelude.{◌≡◌, ◌<◌, ◌^◌, ◌↔◌, [], ◌∷◌, IfOk, IsTrue};
 ghost use Rattle.assumption_engine.specs.Marks.{AreMarkedIn, IsMarked, MarksOne, MarksOnly};
 
 use clause_store::{ClauseRef, Lit, Store, Var};
@@ -19,19 +19,27 @@ pub fn marks_of(alloc: Global, vars: u32, store: &Store) -> Result<Vec<bool>, No
 }
 
 /// Marks the variables that stand unnegated in a clause. Those without a place stay unmarked.
-pub fn mark(marks: &mut [bool], clause: &[Lit])
-    ensures { MarksOnly clause.now marks.old marks.new }
+pub fn mark(marks: &mut Vec<bool>, clause: &[Lit])
+    ensures { MarksOnly clause.now marks.old.items marks.new.items }
 {
     'lits: for lit in clause {
-        if !lit.is_negated() {
-            mark_one(marks, lit.var());
-        }
+        mark_lit(marks, *lit);
     }
 }
 
+/// Marks the variable of a literal that isn't negated.
+fn mark_lit(marks: &mut Vec<bool>, lit: Lit)
+    ensures { MarksOnly (lit ∷ []) marks.old.items marks.new.items }
+{
+    if lit.is_negated() {
+        return;
+    }
+    mark_one(marks, lit.var());
+}
+
 /// Marks a variable, if it has a place.
-fn mark_one(marks: &mut [bool], var: Var)
-    ensures { MarksOne var.0 marks.old marks.new }
+fn mark_one(marks: &mut Vec<bool>, var: Var)
+    ensures { MarksOne var.0 marks.old.items marks.new.items }
 {
     let at = var.0 as usize;
     if at < marks.len() {

@@ -72,7 +72,7 @@ impl Steering {
     pub fn note_learned(&mut self, trail: &Trail, clause: &[Lit])
         ensures { self.new.places ≡ self.old.places }
     {
-        for lit in clause {
+        'lits: for lit in clause {
             self.order.bump(lit.var());
         }
         self.order.decay();

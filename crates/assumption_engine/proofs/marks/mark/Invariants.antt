@@ -3,4 +3,4 @@ use Rattle.assumption_engine.specs.Marks.{MarksOnly}
 use Rattle.assumption_engine.proofs.marks.mark.Given as goal
 
 abbrev pub invariant-lits : goal.invariant-lits
-invariant-lits l = MarksOnly (take l.lit-index l.clause) l.fn.marks l.marks
+invariant-lits l = MarksOnly (take l.lit-index l.clause) l.fn.marks.items l.marks.items
