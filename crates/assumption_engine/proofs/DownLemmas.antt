@@ -10,7 +10,8 @@ use Rattle.clause_store.specs.declared.step.Step.{Step}
 use Rattle.clause_store.specs.Clause.{HasNoVariableTwice, IsOver}
 use Rattle.clause_store.specs.Entailment.{Refutes, negations, others}
 use Rattle.clause_store.specs.History.{IsNewWork}
-use Rattle.clause_store.specs.Standing.{IsFalse, ForcesOn}
+use Rattle.clause_store.specs.declared.literal.ClauseRef.{ClauseRef}
+use Rattle.clause_store.specs.Standing.{IsConflict, IsFalse, ForcesOn}
 use Rattle.clause_store.specs.Trail.{Assigned, IsTrail, present_level, up_to, value_of}
 use Rattle.clause_store.proofs.BackLemmas.{back_twice, none_up_to}
 use Rattle.propagator.specs.Fixpoint.{Extends, IsFixpoint}
@@ -18,11 +19,12 @@ use Rattle.propagator.proofs.ClosureLemmas.{fixpoint_absorbs_no_unit}
 use Rattle.propagator.proofs.ExtendLemmas.{same_level}
 use Rattle.conflict_learning.specs.Analysis.{IsAsserting, StandsIn, greatest_level}
 use Rattle.conflict_learning.specs.declared.learned.Learned.{Learned}
+use Rattle.conflict_learning.proofs.ConflictLemmas.{IsPresentConflict, conflict_there}
 use Rattle.conflict_learning.proofs.UnitLemmas.{back_is_lower, learned_is_a_unit}
 use Rattle.search_heuristics.proofs.PlaceLemmas.{places_after_back, places_with_more}
 use Rattle.assumption_engine.specs.Down.{IsDown}
 use Rattle.assumption_engine.specs.Engine.{HasPropagated, IsAsBelow, IsLearned, Taught}
-use Rattle.assumption_engine.specs.Engine.{WentBack}
+use Rattle.assumption_engine.specs.Engine.{IsLevelOf, WentBack}
 use Rattle.assumption_engine.specs.Progress.{weight}
 use Rattle.search_state.specs.State.{Searched}
 use Rattle.assumption_engine.proofs.ProgressLemmas.{weight_after_back}
@@ -31,6 +33,18 @@ use Rattle.assumption_engine.specs.Sided.{AreInOrder, AreOpposed}
 use Rattle.assumption_engine.proofs.SidedLemmas.{opposed, order_after_back, order_extended}
 
 -- ---- one conflict
+
+-- a conflict is one of the present level, back at the greatest level of its literals
+pub conflict_back : {old new : Searched} {at : ClauseRef} {level : ℕ}
+    {clauses : List (List Lit)} {trail : Assigned}
+    → IsConflict old.clauses old.trail.steps at → IsLevelOf old at level → 0 < level
+    → WentBack level old new → clauses ≡ new.clauses → trail ≡ new.trail
+    → IsPresentConflict clauses trail.steps at
+conflict_back {old} {new} {at} {level} {clauses} {trail} is greatest above back same there =
+    conflict_there old.clauses clauses old.trail.steps trail.steps at is.clause level is is.named
+    (greatest is.clause is.named) above (same ∙ back.clauses)
+    (ap (λ t. t.steps) (there ∙ back.trail))
+    (ap (λ t. present_level t.steps) there ∙ back.present)
 
 -- what the analysis of a conflict says of its clause
 pub record IsAnalysed (clauses : List (List Lit)) (trail : Assigned) (learned : Learned) :

@@ -231,64 +231,55 @@ order_after assumed old new clause put order =
     subst (λ s. AreInOrder s.clauses assumed s.trail.steps) (sym put)
     (order_with_clause old.clauses clause assumed old.trail.steps order)
 
+-- clauses that were there are there when one comes
+more_with : (old new : Searched) (clause : List Lit) (clauses : List (List Lit))
+    → new ≡ with_clause old clause → AreMoreClauses clauses old.clauses
+    → AreMoreClauses clauses new.clauses
+more_with old new clause clauses put there =
+    subst (λ s. AreMoreClauses clauses s.clauses) (sym put)
+    (All-weaker (Contains old.clauses) (Contains (old.clauses ++ clause ∷ []))
+    (λ one here. Contains-append_left old.clauses (clause ∷ []) one here) clauses there)
+
+-- a clause came, and what holds in the models is there
+right_with : (meaning : Meaning) (followed : List Followed) (old new : Searched)
+    (was defined : List (List Lit)) (clause : List Lit) → IsRight meaning followed old was
+    → new ≡ with_clause old clause
+    → ((values : List Bool) → IsModelOf meaning defined values
+    → Meets values (old.clauses ++ clause ∷ []))
+    → AreMoreClauses defined new.clauses → IsRight meaning followed new defined
+right_with meaning followed old new was defined clause is put meets kept =
+    record {
+      alive = ap (λ s. s.dead) put ∙ is.alive;
+      holds = λ values model. subst (λ s. Meets values s.clauses) (sym put) (meets values model);
+      needed = more_with old new clause meaning.needs put is.needed;
+      kept = kept;
+      range =
+          let r = is.range in let same = ap (λ s. s.trail.vars) put in omega (arith, r, same);
+      follows = subst (λ s. AreFollowed s.trail.steps followed) (sym put) is.follows;
+    }
+
+-- so for a clause that holds in all models
 pub right_added : (meaning : Meaning) (followed : List Followed) (old new : Searched)
     (defined : List (List Lit)) (clause : List Lit) → IsRight meaning followed old defined
     → new ≡ with_clause old clause
     → ((values : List Bool) → IsModelOf meaning defined values → HoldsIn values clause)
     → IsRight meaning followed new defined
-right_added meaning followed old new defined clause is added holds =
-    record {
-      alive = ap (λ s. s.dead) added ∙ is.alive;
-      holds =
-          λ values model. subst (Meets values) (sym store)
-          (All-push (HoldsIn values) old.clauses clause (is.holds values model)
-          (holds values model));
-      needed = more meaning.needs is.needed;
-      kept = more defined is.kept;
-      range =
-          let r = is.range in let same = ap (λ s. s.trail.vars) added in omega (arith, r, same);
-      follows = subst (λ s. AreFollowed s.trail.steps followed) (sym added) is.follows;
-    }
-  where
-    store : new.clauses ≡ old.clauses ++ clause ∷ []
-    store = ap (λ s. s.clauses) added
+right_added meaning followed old new defined clause is put holds =
+    right_with meaning followed old new defined defined clause is put
+    (λ values model. All-push (HoldsIn values) old.clauses clause (is.holds values model)
+    (holds values model)) (more_with old new clause defined put is.kept)
 
-    more : (clauses : List (List Lit)) → AreMoreClauses clauses old.clauses
-        → AreMoreClauses clauses new.clauses
-    more clauses there =
-        subst (AreMoreClauses clauses) (sym store)
-        (All-weaker (Contains old.clauses) (Contains (old.clauses ++ clause ∷ []))
-        (λ one here. Contains-append_left old.clauses (clause ∷ []) one here) clauses there)
-
--- a selector is defined: its clause comes, to the clauses of the selectors too
+-- and for the clause of a selector, which comes to the clauses of the selectors too
 pub right_defined : (meaning : Meaning) (followed : List Followed) (old new : Searched)
     (was defined : List (List Lit)) (clause : List Lit) → IsRight meaning followed old was
     → new ≡ with_clause old clause → defined ≡ was ++ clause ∷ []
     → IsRight meaning followed new defined
-right_defined meaning followed old new was defined clause is added more =
-    record {
-      alive = ap (λ s. s.dead) added ∙ is.alive;
-      holds = λ values model. subst (Meets values) (sym store) (meets values model);
-      needed =
-          subst (AreMoreClauses meaning.needs) (sym store)
-          (All-weaker (Contains old.clauses) (Contains (old.clauses ++ clause ∷ []))
-          (λ one here. Contains-append_left old.clauses (clause ∷ []) one here) meaning.needs
-          is.needed);
-      kept =
-          subst (λ d. AreMoreClauses d new.clauses) (sym more)
-          (subst (AreMoreClauses (was ++ clause ∷ [])) (sym store)
-          (All-push (Contains (old.clauses ++ clause ∷ [])) was clause
-          (All-weaker (Contains old.clauses) (Contains (old.clauses ++ clause ∷ []))
-          (λ one here. Contains-append_left old.clauses (clause ∷ []) one here) was is.kept)
-          (Contains-push old.clauses clause)));
-      range =
-          let r = is.range in let same = ap (λ s. s.trail.vars) added in omega (arith, r, same);
-      follows = subst (λ s. AreFollowed s.trail.steps followed) (sym added) is.follows;
-    }
+right_defined meaning followed old new was defined clause is put more =
+    right_with meaning followed old new was defined clause is put meets
+    (subst (λ d. AreMoreClauses d new.clauses) (sym more)
+    (All-push (Contains new.clauses) was clause (more_with old new clause was put is.kept)
+    (subst (λ s. Contains s.clauses clause) (sym put) (Contains-push old.clauses clause))))
   where
-    store : new.clauses ≡ old.clauses ++ clause ∷ []
-    store = ap (λ s. s.clauses) added
-
     meets : (values : List Bool) → IsModelOf meaning defined values
         → Meets values (old.clauses ++ clause ∷ [])
     meets values model =

@@ -101,6 +101,15 @@ right_propagated {meaning} {followed} {old} {new} {defined} is by =
     (subst (λ steps. AreFollowed steps followed) (sym by.extends.steps)
     (followed_more old.trail.steps by.extends.added followed is.follows))
 
+-- the theory was asked at the trail
+pub right_asked : {one two : Meaning} {before after : List Followed} {state : Searched}
+    {defined : List (List Lit)} {trail : Assigned} → IsRight one before state defined
+    → MeansTheSame one two → trail ≡ state.trail → AreFollowed trail.steps after
+    → IsRight two after state defined
+right_asked {one} {two} {before} {after} {state} {defined} {trail} is same at follows =
+    right_moved one two before after state state defined same is is.alive refl refl
+    (subst (λ t. AreFollowed t.steps after) at follows)
+
 -- a state with an assignment put last
 abbrev pub pushed : Searched → Step → Searched
 pushed state step =

@@ -1,15 +1,15 @@
 -- What is true by assumptions alone: how the order of what was made true is kept, and what it says
 -- of one-sided variables.
-use Rattle.std.proofs.Common.{◌≡◌, ℕ, ◌+◌, ◌*◌, ◌%◌, Bool, true, false, cond, eqb, List, [], ◌∷◌}
+use Rattle.std.proofs.Common.{◌≡◌, ℕ, ◌+◌, ◌*◌, ◌%◌, ◌/◌, Bool, true, false, cond, eqb, List, [], ◌∷◌}
 use Rattle.std.proofs.Common.{◌++◌, ◌⊎◌, get_or, Option, Some, None, refl, sym, ap, ◌∙◌, subst}
 use Rattle.std.proofs.Common.{inl, inr, arith}
-use Rattle.std.specs.Prelude.{All, Contains, find, IsSome}
-use Rattle.std.proofs.lemmas.Bool.{eqb-true, eq-eqb, false≢true}
+use Rattle.std.specs.Prelude.{All, Contains, IsSome}
+use Rattle.std.proofs.lemmas.Bool.{eqb-true, eq-eqb, false≢true, ne_eqb}
 use Rattle.std.proofs.lemmas.List.Elements.{All-append, All-cons, All-contains, All-contains_itself}
 use Rattle.std.proofs.lemmas.List.Elements.{All-nil, All-push, All-weaker}
 use Rattle.std.proofs.lemmas.List.Elements.{Contains-append_left}
 use Rattle.std.proofs.lemmas.List.Elements.{Contains-push_cases}
-use Rattle.std.proofs.lemmas.Option.{same_Some, slice_get-get_or}
+use Rattle.std.proofs.lemmas.Option.{slice_get-get_or}
 use Rattle.clause_store.specs.declared.literal.Lit.{Lit}
 use Rattle.clause_store.specs.declared.literal.ClauseRef.{ClauseRef}
 use Rattle.clause_store.specs.declared.literal.Value.TheVariants.{Yes, No}
@@ -246,32 +246,30 @@ free_is_assumed IsKind clauses assumed var is (inr (inl negated)) =
     absurd (positive_is_not_negated var negated)
 free_is_assumed IsKind clauses assumed var is (inr (inr stands)) = absurd (is.not_stored stands)
 
-find_here : {X : Type 0} (p : X → Bool) (xs : List X) (x : X) → find p xs ≡ Some x → Contains xs x
-find_here p [] x is = absurd (cc)
-find_here p (y ∷ xs) x is = go (p y) is (find_here p xs x)
+-- where a variable is true, its negative literal is false
+other_is_no : (var : ℕ) (o : Option Step) → value_by o (positive var) ≡ Yes
+    → value_by o (negative var) ≡ No
+other_is_no var None is = absurd (cc)
+other_is_no var (Some step) is = go (eqb step.lit.0 (2 * var)) refl is
   where
-    go : (b : Bool) → cond b (Some y) (find p xs) ≡ Some x → (find p xs ≡ Some x → Contains xs x)
-        → Contains (y ∷ xs) x
-    go true same rest =
-        subst (Contains (y ∷ xs)) (same_Some y x same) (has_first y xs)
-    go false later rest = has_later y x xs (rest later)
+    go : (b : Bool) → eqb step.lit.0 (2 * var) ≡ b → cond b Yes No ≡ Yes
+        → value_by (Some step) (negative var) ≡ No
+    go true same made =
+        let even : step.lit.0 ≡ 2 * var = eqb-true step.lit.0 (2 * var) same in
+        ap (λ b. cond b Yes No) (ne_eqb step.lit.0 (2 * var + 1) (λ odd. omega (arith, even, odd)))
+    go false other made = absurd (cc)
 
--- a literal that is true was made true
-true_was_made : (P : Lit → Type 0) (steps : List Step) (lit : Lit) → value_of steps lit ≡ Yes
-    → All (λ step. P step.lit) steps → P lit
-true_was_made P steps lit is all = go (step_of steps (variable lit)) refl is
-  where
-    same_lit : (step : Step) (b : Bool) → eqb step.lit.0 lit.0 ≡ b → cond b Yes No ≡ Yes
-        → step.lit ≡ lit
-    same_lit step true same made = lit_of_code step.lit lit (eqb-true step.lit.0 lit.0 same)
-    same_lit step false other made = absurd (cc)
-
-    go : (o : Option Step) → step_of steps (variable lit) ≡ o → value_by o lit ≡ Yes → P lit
-    go None none made = absurd (cc)
-    go (Some step) found made =
-        subst P (same_lit step (eqb step.lit.0 lit.0) refl made)
-        (All-contains (λ s. P s.lit) steps step all
-        (find_here (λ s. eqb (variable s.lit) (variable lit)) steps step found))
+-- a variable that is true was made true
+true_was_made : (P : Lit → Type 0) (steps : List Step) (var : ℕ)
+    → value_of steps (positive var) ≡ Yes → All (λ step. P step.lit) steps → P (positive var)
+true_was_made P steps var is all =
+    let half : (2 * var + 1) / 2 ≡ (2 * var) / 2 = omega arith in
+    let by =
+    refuter steps (negative var)
+    (ap (λ v. value_by (step_of steps v) (negative var)) half
+    ∙ other_is_no var (step_of steps ((2 * var) / 2)) is) in
+    subst P (by.negates ∙ negation_of_negative var)
+    (All-contains (λ s. P s.lit) steps by.step all by.here)
 
 -- where all is in order, a one-sided variable is true only by assumption
 pub true_as_assumed : (IsKind : List Lit → Type 0) (clauses : List (List Lit)) (assumed : List Lit)
@@ -279,7 +277,7 @@ pub true_as_assumed : (IsKind : List Lit → Type 0) (clauses : List (List Lit))
     → AreTrueAsAssumed IsKind clauses assumed steps
 true_as_assumed IsKind clauses assumed steps order var is is_yes =
     free_is_assumed IsKind clauses assumed var is
-    (true_was_made (IsAssumedOrFree clauses assumed) steps (positive var) is_yes order.free)
+    (true_was_made (IsAssumedOrFree clauses assumed) steps var is_yes order.free)
 
 -- the opposites of false literals are assumed or free
 pub opposed : (clauses : List (List Lit)) (assumed : List Lit) (steps : List Step)

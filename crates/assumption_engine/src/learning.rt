@@ -153,9 +153,10 @@ impl<T: Theory> Engine<T> {
         ensures dead { self.new.dead ≡ self.old.dead }
     {
         self.state.vouch();
-        if self.steering.takes_restart() {
-            self.go_back(0);
+        if !self.steering.takes_restart() {
+            return;
         }
+        self.go_back(0);
     }
 }
 

@@ -4,7 +4,7 @@ use Rattle.clause_store.specs.Standing.{AreFollowed}
 use Rattle.clause_store.specs.Trail.{IsTotal, values_of}
 use Rattle.assumption_engine.specs.Theory.{IsGiven, IsSpentCheck}
 use Rattle.assumption_engine.proofs.AnswerLemmas.{is_model, is_spent_inside, room_below, some_met}
-use Rattle.assumption_engine.proofs.SameLemmas.{given_same, right_moved, same_then}
+use Rattle.assumption_engine.proofs.SameLemmas.{given_same, right_asked, same_then}
 use Rattle.assumption_engine.proofs.StepLemmas.{turned_given, turned_still}
 use Rattle.assumption_engine.proofs.engine.Engine.check_total.Goals as goal
 
@@ -51,13 +51,8 @@ returns-in-Accept-clause-turn g c =
 
 pub take_given-requires-clause-right : goal.take_given-requires-clause-right
 take_given-requires-clause-right g c =
-    right_moved (g.T.Theory.meaning c.args.self.now.theory)
-    (g.T.Theory.meaning c.complete_check.new.self) (g.T.Theory.followed c.args.self.now.theory)
-    (g.T.Theory.followed c.complete_check.new.self) c.args.self.now.state c.args.self.now.state
-    c.args.self.now.defined c.complete_check.ensures.same c.requires.may.right
-    c.requires.may.right.alive refl refl
-    (subst (λ t. AreFollowed t.steps (g.T.Theory.followed c.complete_check.new.self))
-    c.trail.ensures.trail c.complete_check.ensures.followed)
+    right_asked c.requires.may.right c.complete_check.ensures.same c.trail.ensures.trail
+    c.complete_check.ensures.followed
 
 pub take_given-requires-clause-given : goal.take_given-requires-clause-given
 take_given-requires-clause-given g c =

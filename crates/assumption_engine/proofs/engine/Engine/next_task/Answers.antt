@@ -3,8 +3,7 @@ use Rattle.std.specs.Prelude.{All}
 use Rattle.clause_store.specs.Clause.{IsOver}
 use Rattle.search_heuristics.proofs.PlaceLemmas.{places_with_more}
 use Rattle.assumption_engine.proofs.MarkLemmas.{task_of_choice}
-use Rattle.clause_store.specs.Standing.{AreFollowed}
-use Rattle.assumption_engine.proofs.SameLemmas.{right_moved, right_propagated}
+use Rattle.assumption_engine.proofs.SameLemmas.{right_asked, right_propagated}
 use Rattle.assumption_engine.proofs.engine.Engine.next_task.Goals as goal
 
 pub returns-in-Some-clause-right : goal.returns-in-Some-clause-right
@@ -13,25 +12,13 @@ returns-in-Some-clause-right g c =
 
 pub returns-in-Clause-clause-right : goal.returns-in-Clause-clause-right
 returns-in-Clause-clause-right g c =
-    right_moved (g.T.Theory.meaning c.args.self.now.theory)
-    (g.T.Theory.meaning c.propagate-2.new.self) (g.T.Theory.followed c.args.self.now.theory)
-    (g.T.Theory.followed c.propagate-2.new.self) c.propagate.new.self c.propagate.new.self
-    c.args.self.now.defined c.propagate-2.ensures.same
-    (right_propagated c.requires.right c.propagate.ensures.propagated)
-    (c.propagate.ensures.propagated.dead ∙ c.requires.right.alive) refl refl
-    (subst (λ t. AreFollowed t.steps (g.T.Theory.followed c.propagate-2.new.self))
-    c.trail.ensures.trail c.propagate-2.ensures.followed)
+    right_asked (right_propagated c.requires.right c.propagate.ensures.propagated)
+    c.propagate-2.ensures.same c.trail.ensures.trail c.propagate-2.ensures.followed
 
 pub returns-in-Quiet-clause-right : goal.returns-in-Quiet-clause-right
 returns-in-Quiet-clause-right g c =
-    right_moved (g.T.Theory.meaning c.args.self.now.theory)
-    (g.T.Theory.meaning c.propagate-2.new.self) (g.T.Theory.followed c.args.self.now.theory)
-    (g.T.Theory.followed c.propagate-2.new.self) c.propagate.new.self c.propagate.new.self
-    c.args.self.now.defined c.propagate-2.ensures.same
-    (right_propagated c.requires.right c.propagate.ensures.propagated)
-    (c.propagate.ensures.propagated.dead ∙ c.requires.right.alive) refl refl
-    (subst (λ t. AreFollowed t.steps (g.T.Theory.followed c.propagate-2.new.self))
-    c.trail.ensures.trail c.propagate-2.ensures.followed)
+    right_asked (right_propagated c.requires.right c.propagate.ensures.propagated)
+    c.propagate-2.ensures.same c.trail.ensures.trail c.propagate-2.ensures.followed
 
 pub returns-in-Some-clause-places : goal.returns-in-Some-clause-places
 returns-in-Some-clause-places g c =

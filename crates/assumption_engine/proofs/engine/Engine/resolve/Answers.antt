@@ -1,9 +1,9 @@
 use Rattle.std.proofs.Common.{◌<◌, ◌∙◌, arith, ap, sym, subst}
 use Rattle.clause_store.specs.Trail.{present_level}
-use Rattle.conflict_learning.proofs.ConflictLemmas.{conflict_there, level_within}
+use Rattle.conflict_learning.proofs.ConflictLemmas.{level_within}
 use Rattle.conflict_learning.proofs.UnitLemmas.{back_is_lower}
 use Rattle.assumption_engine.specs.Engine.{Taught}
-use Rattle.assumption_engine.proofs.DownLemmas.{IsAnalysed, taught}
+use Rattle.assumption_engine.proofs.DownLemmas.{IsAnalysed, conflict_back, taught}
 use Rattle.assumption_engine.proofs.engine.Engine.resolve.Goals as goal
 
 pub go_back-requires-clause-level : goal.go_back-requires-clause-level
@@ -15,25 +15,15 @@ go_back-requires-clause-level g c =
 pub analyse-requires-clause-conflict : goal.analyse-requires-clause-conflict
 analyse-requires-clause-conflict g c =
     let there =
-    conflict_there c.args.self.now.state.clauses c.store.result.now
-    c.args.self.now.state.trail.steps c.trail.result.now.steps c.args.conflict
-    c.requires.conflict.clause c.args.level c.requires.conflict c.requires.conflict.named
-    (c.requires.level c.requires.conflict.clause c.requires.conflict.named) c.requires.above
-    (c.store.ensures.store ∙ c.go_back.ensures.back.clauses)
-    (ap (λ t. t.steps) (c.trail.ensures.trail ∙ c.go_back.ensures.back.trail))
-    (ap (λ t. present_level t.steps) c.trail.ensures.trail ∙ c.go_back.ensures.back.present) in
+    conflict_back c.requires.conflict c.requires.level c.requires.above c.go_back.ensures.back
+    c.store.ensures.store c.trail.ensures.trail in
     there.conflict
 
 pub analyse-requires-clause-present : goal.analyse-requires-clause-present
 analyse-requires-clause-present g c =
     let there =
-    conflict_there c.args.self.now.state.clauses c.store.result.now
-    c.args.self.now.state.trail.steps c.trail.result.now.steps c.args.conflict
-    c.requires.conflict.clause c.args.level c.requires.conflict c.requires.conflict.named
-    (c.requires.level c.requires.conflict.clause c.requires.conflict.named) c.requires.above
-    (c.store.ensures.store ∙ c.go_back.ensures.back.clauses)
-    (ap (λ t. t.steps) (c.trail.ensures.trail ∙ c.go_back.ensures.back.trail))
-    (ap (λ t. present_level t.steps) c.trail.ensures.trail ∙ c.go_back.ensures.back.present) in
+    conflict_back c.requires.conflict c.requires.level c.requires.above c.go_back.ensures.back
+    c.store.ensures.store c.trail.ensures.trail in
     there.present
 
 pub go_back-requires-2-clause-level : goal.go_back-requires-2-clause-level

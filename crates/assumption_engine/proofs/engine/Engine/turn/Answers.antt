@@ -177,7 +177,14 @@ returns-in-Check-clause-places g c =
 
 pub returns-in-Decide-clause-places : goal.returns-in-Decide-clause-places
 returns-in-Decide-clause-places g c =
+    let steps = c.next_task.new.self.state.trail.steps in
+    let decided : Step =
+    record { lit = c.in-Decide.lit; reason = None; level = present_level steps + 1 } in
     subst (λ s. AreTrueBefore c.args.assumed.now s.trail.steps c.opens_level.new.self.places)
     (sym c.decide.ensures)
-    (c.opens_level.ensures c.args.assumed.now _ (ap (λ t. present_level t.steps) c.opened)
-    c.in_ok-conflict.ensures.places)
+    (subst (λ t. AreTrueBefore c.args.assumed.now (t.steps ++ decided ∷ [])
+    c.opens_level.new.self.places) c.trail.ensures.trail
+    (c.opens_level.ensures c.args.assumed.now decided
+    (ap (λ t. present_level t.steps + 1) (sym c.trail.ensures.trail))
+    (subst (λ t. AreTrueBefore c.args.assumed.now t.steps c.next_task.new.self.steering.places)
+    (sym c.trail.ensures.trail) c.in_ok-conflict.ensures.places)))
