@@ -83,7 +83,8 @@ core_at_zero one two followed state defined there assumed core at lits same righ
 -- where clauses are among those of a store, a total assignment at a fixpoint meets them
 pub some_met : (meaning : Meaning) (followed : List Followed) (state : Searched)
     (defined some : List (List Lit)) → IsRight meaning followed state defined
-    → AreOver state.trail.vars state.clauses → IsTotal state.trail → IsFixpoint state.clauses state.trail.steps
+    → AreOver state.trail.vars state.clauses → IsTotal state.trail
+    → IsFixpoint state.clauses state.trail.steps
     → AreMoreClauses some state.clauses → Meets (values_of state.trail) some
 some_met meaning followed state defined some right over total fixpoint there =
     all_through (HoldsIn (values_of state.trail)) some state.clauses there
@@ -96,7 +97,8 @@ assumed_true trail lits total over are k d within =
 
 pub is_model : (meaning : Meaning) (followed : List Followed) (state : Searched)
     (defined : List (List Lit)) (assumed : List Lit) → IsRight meaning followed state defined
-    → AreOver state.trail.vars state.clauses → IsTotal state.trail → IsFixpoint state.clauses state.trail.steps
+    → AreOver state.trail.vars state.clauses → IsTotal state.trail
+    → IsFixpoint state.clauses state.trail.steps
     → All (IsOver state.trail.vars) assumed → AreTrue state.trail.steps assumed
     → meaning.models (values_of state.trail)
     → IsModelOn meaning defined assumed state.trail
@@ -116,7 +118,8 @@ is_model meaning followed state defined assumed right over total fixpoint assume
 pub is_spent_inside : (meaning : Meaning) (followed : List Followed) (state : Searched)
     (defined : List (List Lit)) (assumed : List Lit) (limit : ℕ) (set : List Bool)
     (units : List (List Lit)) → IsRight meaning followed state defined
-    → AreOver state.trail.vars state.clauses → IsTotal state.trail → IsFixpoint state.clauses state.trail.steps
+    → AreOver state.trail.vars state.clauses → IsTotal state.trail
+    → IsFixpoint state.clauses state.trail.steps
     → All (IsOver state.trail.vars) assumed → AreTrue state.trail.steps assumed
     → IsSpentCheck meaning limit (values_of state.trail) set units
     → IsSpentInside meaning defined assumed limit set units

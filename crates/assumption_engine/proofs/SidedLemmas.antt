@@ -1,6 +1,7 @@
 -- What is true by assumptions alone: how the order of what was made true is kept, and what it says
 -- of one-sided variables.
-use Rattle.std.proofs.Common.{◌≡◌, ℕ, ◌+◌, ◌*◌, ◌%◌, ◌/◌, Bool, true, false, cond, eqb, List, [], ◌∷◌}
+use Rattle.std.proofs.Common.{◌≡◌, ℕ, ◌+◌, ◌*◌, ◌%◌, ◌/◌, Bool, true, false, cond, eqb, List, []}
+use Rattle.std.proofs.Common.{◌∷◌}
 use Rattle.std.proofs.Common.{◌++◌, ◌⊎◌, get_or, Option, Some, None, refl, sym, ap, ◌∙◌, subst}
 use Rattle.std.proofs.Common.{inl, inr, arith}
 use Rattle.std.specs.Prelude.{All, Contains, IsSome}
@@ -14,12 +15,12 @@ use Rattle.clause_store.specs.declared.literal.Lit.{Lit}
 use Rattle.clause_store.specs.declared.literal.ClauseRef.{ClauseRef}
 use Rattle.clause_store.specs.declared.literal.Value.TheVariants.{Yes, No}
 use Rattle.clause_store.specs.declared.step.Step.{Step}
-use Rattle.clause_store.specs.Clause.{is_negated, negation, variable}
+use Rattle.clause_store.specs.Clause.{is_negated, negation}
 use Rattle.clause_store.specs.Standing.{IsFalse}
 use Rattle.clause_store.specs.Trail.{Assigned, IsTrail, IsTrailOf, RisesFrom, next_level}
 use Rattle.clause_store.specs.Trail.{present_level, step_of, up_to, value_by, value_of}
 use Rattle.clause_store.proofs.BackLemmas.{front_after_back}
-use Rattle.clause_store.proofs.LiteralLemmas.{any_from, any_through, has_first, has_later}
+use Rattle.clause_store.proofs.LiteralLemmas.{any_from, any_through}
 use Rattle.clause_store.proofs.LiteralLemmas.{lit_of_code}
 use Rattle.propagator.specs.Fixpoint.{Extends}
 use Rattle.conflict_learning.specs.Analysis.{StandsIn}
@@ -292,7 +293,8 @@ opposed clauses assumed steps clause order all_false =
     clause all_false
 
 -- in what is learned, one-sided variables stand only negated, and only where they are assumed
-pub learned_as_assumed : (IsKind : List Lit → Type 0) (clauses : List (List Lit)) (assumed : List Lit)
+pub learned_as_assumed : (IsKind : List Lit → Type 0) (clauses : List (List Lit))
+    (assumed : List Lit)
     (clause : List Lit) → All (StandsIn clauses) clause → AreOpposed clauses assumed clause
     → AreAsAssumed IsKind clauses assumed clause
 learned_as_assumed IsKind clauses assumed clause stand opposites var is =

@@ -61,7 +61,8 @@ turn_taken meaning defined assumed stop old now back set new learned after Going
       nearer =
           elim taken.taken [
             | inl longer ↦
-                let same : set.clauses ≡ old.clauses = by.clauses ∙ is.back.clauses ∙ down.clauses in
+                let same : set.clauses ≡ old.clauses = by.clauses ∙ is.back.clauses
+                ∙ down.clauses in
                 inl (subst (λ s. length s < length new.clauses) same longer)
             | inr assigned ↦
                 inr (record {
@@ -216,7 +217,8 @@ fewer_turns full vars old new is same few (inr further) =
     omega (arith, less, left)
 
 -- the clauses that came are few
-pub few_came : (meaning : Meaning) (assumed : List Lit) (old new : Searched) (before after : Counted)
+pub few_came : (meaning : Meaning) (assumed : List Lit) (old new : Searched)
+    (before after : Counted)
     (vars : ℕ) → GoesOn meaning assumed old new before after → AreOver new.trail.vars new.clauses
     → new.trail.vars ≡ vars → length new.clauses < length old.clauses + 3 ^ vars
 few_came meaning assumed old new before after vars on over same =

@@ -132,7 +132,8 @@ pub record IsSet (old new : Searched) (lit : Lit) : Type 0 where
   pub same : new ≡ old
 
 -- a clause came, or its asserting literal is assigned
-pub record IsTaken (stop : ℕ) (old new : Searched) (asserting : Lit) (after : Counted) : Type 0 where
+pub record IsTaken (stop : ℕ) (old new : Searched) (asserting : Lit) (after : Counted) :
+    Type 0 where
   pub below : length after.units < stop
   pub taken : (length old.clauses < length new.clauses) ⊎ IsSet old new asserting
 

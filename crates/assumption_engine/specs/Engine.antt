@@ -37,8 +37,8 @@ pub record IsRight (meaning : Meaning) (followed : List Followed) (state : Searc
   pub follows : AreFollowed state.trail.steps followed
 
 -- a search went on: clauses came that were counted or may be given, none of which those before
--- absorb; one-sided variables stay so, and stand only as assumed in what was counted; and the assumed
--- literals still come first
+-- absorb; one-sided variables stay so, and stand only as assumed in what was counted; and the
+-- assumed literals still come first
 pub record GoesOn (meaning : Meaning) (assumed : List Lit) (old new : Searched)
     (before after : Counted) : Type 0 where
   pub vars : new.trail.vars ≡ old.trail.vars

@@ -48,8 +48,8 @@ IsFree clauses lit = (is_negated lit ≡ true) ⊎ StandsIn clauses lit
 abbrev pub IsAssumedOrFree : List (List Lit) → List Lit → Lit → Type 0
 IsAssumedOrFree clauses assumed lit = Contains assumed lit ⊎ IsFree clauses lit
 
--- the assumed literals were decided first, and each literal that was made true is assumed, or may be
--- true unassumed
+-- the assumed literals were decided first, and each literal that was made true is assumed, or may
+-- be true unassumed
 pub record AreInOrder (clauses : List (List Lit)) (assumed : List Lit) (steps : List Step) :
     Type 0 where
   pub first : AreAssumedFirst assumed steps

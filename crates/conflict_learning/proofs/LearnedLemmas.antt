@@ -5,30 +5,33 @@ use Rattle.std.proofs.Common.{refl, sym, ap, ap₂, ◌∙◌, subst, inl, inr, 
 use Rattle.std.specs.Prelude.{All, Any, Contains, slice_get, count_by, filter, IsSome, IsTrue}
 use Rattle.std.specs.Prelude.{unwrap_or}
 use Rattle.std.proofs.lemmas.Bool.{cases_Bool, cases_eq, eq-eqb, ne_eqb, false≢true, not_from_false}
-use Rattle.std.proofs.lemmas.List.{append-nil, take_more}
+use Rattle.std.proofs.lemmas.List.{append-nil, map-append, take_more}
 use Rattle.std.proofs.Math.Seq.{take-length}
-use Rattle.std.proofs.lemmas.List.Elements.{All-head, All-tail, All-cons, All-contains}
+use Rattle.std.proofs.lemmas.List.Elements.{All-append, All-head, All-tail, All-cons, All-contains}
 use Rattle.std.proofs.lemmas.List.Elements.{All-contains_itself, All-push, All-weaker}
 use Rattle.std.proofs.lemmas.List.Elements.{Contains-append_left, Contains-push, filter-append}
 use Rattle.std.proofs.lemmas.List.Quantifiers.{all_pairs_push}
 use Rattle.std.proofs.lemmas.Option.{same_Some, slice_get_within}
+use Rattle.item_list.proofs.ListLemmas.{All-left, All-right}
 use Rattle.clause_store.specs.declared.literal.Lit.{Lit}
 use Rattle.clause_store.specs.declared.literal.ClauseRef.{ClauseRef}
 use Rattle.clause_store.specs.declared.literal.Value.TheVariants.{Yes, No}
 use Rattle.clause_store.specs.declared.step.Step.{Step}
-use Rattle.clause_store.specs.Clause.{variable, negation, HasNoVariableTwice, IsOver}
-use Rattle.clause_store.specs.Entailment.{negations, others, InClosure, Refutes}
+use Rattle.clause_store.specs.Clause.{variable, negation, HasAll, HasNoVariableTwice, IsOver}
+use Rattle.clause_store.specs.Entailment.{negations, others, InClosure, IsClosed, Refutes}
 use Rattle.clause_store.specs.Trail.{Assigned, IsTrailOf, IsReasonFor, step_of, value_by, level_of}
 use Rattle.clause_store.specs.Trail.{present_level, next_level}
-use Rattle.clause_store.proofs.LiteralLemmas.{all_through, any_from, cases_lit, has_mapped}
+use Rattle.clause_store.proofs.LiteralLemmas.{all_through, any_from, any_through, cases_lit}
+use Rattle.clause_store.proofs.LiteralLemmas.{has_mapped}
 use Rattle.clause_store.proofs.LiteralLemmas.{negation-negation, variable-negation}
 use Rattle.clause_store.proofs.ArrayLemmas.{negation_differs}
 use Rattle.conflict_learning.specs.declared.walk.Walk.{Walk}
 use Rattle.clause_store.specs.Standing.{IsFalse, IsConflict}
 use Rattle.conflict_learning.specs.Analysis.{StandsIn, level_at, greatest_level, IsAsserting}
 use Rattle.conflict_learning.specs.Marks.{IsMarked, is_open}
-use Rattle.conflict_learning.specs.Walk.{IsLower, IsUnderWay, AllStand, GivenBy, Begins, IsNotable}
-use Rattle.conflict_learning.specs.Walk.{NotesAll, GoesBack, ResolvesTo}
+use Rattle.conflict_learning.specs.Walk.{IsUnderWay, AllStand, GivenBy, Begins, IsNotable}
+use Rattle.conflict_learning.specs.Walk.{NotesAll, GoesBack, ResolvesTo, IsDerived, IsLearnable}
+use Rattle.conflict_learning.specs.Minimisation.{IsEnough}
 use Rattle.conflict_learning.proofs.AssignedLemmas.{here_at, refuter, false_later, false_over}
 use Rattle.conflict_learning.proofs.AssignedLemmas.{below_present, step_at, level_found}
 use Rattle.conflict_learning.proofs.MarkLemmas.{none_counted, count_none}
@@ -276,21 +279,6 @@ answer_found clauses trail noted done lit to =
     ap (step_of trail.steps) (ap variable to.is ∙ variable-negation to.step.lit)
     ∙ (step_at trail done.at to.step to.under_way.is_trail to.there).found
 
-answer_level : (clauses : List (List Lit)) (trail : Assigned) (noted done : Walk) (lit : Lit)
-    (to : ResolvesTo clauses trail noted done lit) → level_at trail.steps lit ≡ done.level
-answer_level clauses trail noted done lit to =
-    (level_found trail.steps lit to.step (answer_found clauses trail noted done lit to)).0
-    ∙ to.level
-
--- the other literals have other variables
-apart : (clauses : List (List Lit)) (trail : Assigned) (noted done : Walk) (lit other : Lit)
-    → ResolvesTo clauses trail noted done lit
-    → IsLower trail.steps done.marks.items done.level other → variable other ≡ variable lit → ⊥
-apart clauses trail noted done lit other to low same =
-    let level : level_at trail.steps other ≡ level_at trail.steps lit =
-    ap (λ v. unwrap_or (level_of trail.steps v) 0) same in
-    omega (arith, low.below, level, answer_level clauses trail noted done lit to)
-
 pub learned_refuted : (clauses : List (List Lit)) (trail : Assigned) (conflict : List Lit)
     (begun noted done : Walk) (lit : Lit) → IsDone clauses trail conflict begun noted done lit
     → Refutes clauses (negations (done.clause ++ lit ∷ []))
@@ -328,80 +316,142 @@ learned_refuted clauses trail conflict begun noted done lit is =
           (sym is.resolves.under_way.counted ∙ is.resolves.none));
     }))
 
-pub learned_stands : (clauses : List (List Lit)) (trail : Assigned) (conflict : List Lit)
-    (begun noted done : Walk) (lit : Lit) → IsDone clauses trail conflict begun noted done lit
-    → All (StandsIn clauses) (done.clause ++ lit ∷ [])
-learned_stands clauses trail conflict begun noted done lit is =
-    let stand = is.resolves.stands (is.notes.stands clauses
-    (λ k d inside. any_from (λ clause. Contains clause (get_or conflict k d)) clauses conflict
-    is.here (All-contains_itself conflict k d inside)) (is.begins.stands clauses)) in
-    All-push (StandsIn clauses) done.clause lit stand.lower
-    (subst (StandsIn clauses) (sym is.resolves.is)
-    (All-contains
-    (λ s. IsMarked done.marks.items (variable s.lit) → StandsIn clauses (negation s.lit))
-    trail.steps is.resolves.step stand.marked
-    (here_at trail.steps done.at is.resolves.step is.resolves.there) is.resolves.marked))
-
-pub learned_false : (clauses : List (List Lit)) (trail : Assigned) (noted done : Walk) (lit : Lit)
-    → ResolvesTo clauses trail noted done lit → All (IsFalse trail.steps) (done.clause ++ lit ∷ [])
-learned_false clauses trail noted done lit to =
-    All-push (IsFalse trail.steps) done.clause lit
-    (λ k d inside. (to.under_way.lower k d inside).is_false)
-    (ap (λ o. value_by o lit) (answer_found clauses trail noted done lit to)
-    ∙ ap (λ b. cond b Yes No)
-    (ne_eqb to.step.lit.0 lit.0
-    (λ same. negation_differs to.step.lit (same ∙ ap (λ l. l.0) to.is))))
-
-pub learned_once : (clauses : List (List Lit)) (trail : Assigned) (noted done : Walk) (lit : Lit)
-    → ResolvesTo clauses trail noted done lit → HasNoVariableTwice (done.clause ++ lit ∷ [])
-learned_once clauses trail noted done lit to =
-    all_pairs_push (λ one two. variable one ≢ variable two) done.clause lit to.under_way.once
-    (λ k d inside. apart clauses trail noted done lit (get_or done.clause k d) to
-    (to.under_way.lower k d inside))
-
-pub learned_over : (clauses : List (List Lit)) (trail : Assigned) (noted done : Walk) (lit : Lit)
-    → ResolvesTo clauses trail noted done lit → All (IsOver trail.vars) (done.clause ++ lit ∷ [])
-learned_over clauses trail noted done lit to =
-    All-weaker (IsFalse trail.steps) (IsOver trail.vars)
-    (λ l. false_over trail l to.under_way.is_trail) (done.clause ++ lit ∷ [])
-    (learned_false clauses trail noted done lit to)
-
-pub learned_asserting : (clauses : List (List Lit)) (trail : Assigned) (noted done : Walk)
-    (lit : Lit) → ResolvesTo clauses trail noted done lit
-    → IsAsserting trail.steps (done.clause ++ lit ∷ []) lit
-learned_asserting clauses trail noted done lit to =
-    record {
-      here = Contains-push done.clause lit;
-      present =
-          (level_found trail.steps lit to.step (answer_found clauses trail noted done lit to)).1
-          ∙ ap Some (to.level ∙ to.under_way.level_is);
-      others =
-          All-push (λ other. other ≢ lit → level_at trail.steps other < present_level trail.steps)
-          done.clause lit
-          (λ k d inside differs. subst (λ n. level_at trail.steps (get_or done.clause k d) < n)
-          to.under_way.level_is (to.under_way.lower k d inside).below)
-          (λ differs. absurd (differs refl));
-    }
-
 filter_all : {X : Type 0} (p : X → Bool) (xs : List X) → All (λ x. p x ≡ true) xs → filter p xs ≡ xs
 filter_all p [] all = refl
 filter_all p (x ∷ xs) all =
     ap₂ (λ b ys. cond b (x ∷ ys) ys) (All-head (λ y. p y ≡ true) x xs all)
     (filter_all p xs (All-tail (λ y. p y ≡ true) x xs all))
 
--- the others are the literals of lower levels
-pub learned_others : (clauses : List (List Lit)) (trail : Assigned) (noted done : Walk) (lit : Lit)
-    → ResolvesTo clauses trail noted done lit → others (done.clause ++ lit ∷ []) lit ≡ done.clause
-learned_others clauses trail noted done lit to =
-    filter-append (λ other. not (eqb other.0 lit.0)) done.clause (lit ∷ [])
-    ∙ ap₂ (λ xs b. xs ++ cond b (lit ∷ []) [])
-    (filter_all (λ other. not (eqb other.0 lit.0)) done.clause
-    (λ k d inside. not_from_false (eqb (get_or done.clause k d).0 lit.0)
-    (ne_eqb (get_or done.clause k d).0 lit.0
-    (λ same. apart clauses trail noted done lit (get_or done.clause k d) to
-    (to.under_way.lower k d inside) (ap (λ n. n / 2) same)))))
-    (ap not (eq-eqb lit.0 lit.0 refl))
-    ∙ append-nil done.clause
+-- the literals of lower levels, and the one of the present level, are a clause to be learned
+pub derived : (clauses : List (List Lit)) (trail : Assigned) (conflict : List Lit)
+    (begun noted done : Walk) (lit : Lit) → IsDone clauses trail conflict begun noted done lit
+    → IsDerived clauses trail done.clause lit
+derived clauses trail conflict begun noted done lit is =
+    let to = is.resolves in
+    let stand = to.stands (is.notes.stands clauses
+    (λ k d inside. any_from (λ clause. Contains clause (get_or conflict k d)) clauses conflict
+    is.here (All-contains_itself conflict k d inside)) (is.begins.stands clauses)) in
+    let found = answer_found clauses trail noted done lit to in
+    record {
+      is_trail = to.under_way.is_trail;
+      refuted = learned_refuted clauses trail conflict begun noted done lit is;
+      learnable = λ k d inside. record {
+        stands = stand.lower k d inside;
+        is_false = (to.under_way.lower k d inside).is_false;
+        below =
+            subst (λ n. level_at trail.steps (get_or done.clause k d) < n) to.under_way.level_is
+            (to.under_way.lower k d inside).below;
+      };
+      once = to.under_way.once;
+      stands =
+          subst (StandsIn clauses) (sym to.is)
+          (All-contains
+          (λ s. IsMarked done.marks.items (variable s.lit) → StandsIn clauses (negation s.lit))
+          trail.steps to.step stand.marked (here_at trail.steps done.at to.step to.there)
+          to.marked);
+      is_false =
+          ap (λ o. value_by o lit) found
+          ∙ ap (λ b. cond b Yes No)
+          (ne_eqb to.step.lit.0 lit.0
+          (λ same. negation_differs to.step.lit (same ∙ ap (λ l. l.0) to.is)));
+      present =
+          (level_found trail.steps lit to.step found).1
+          ∙ ap Some (to.level ∙ to.under_way.level_is);
+    }
+
+-- fewer literals are one too, where they are enough
+pub derived_enough : {clauses : List (List Lit)} {trail : Assigned} {many few : List Lit}
+    {lit : Lit} → IsDerived clauses trail many lit → IsEnough clauses many few
+    → IsDerived clauses trail few lit
+derived_enough {clauses = clauses} {trail = trail} {many = many} {few = few} {lit = lit} is enough =
+    record {
+      is_trail = is.is_trail;
+      refuted =
+          any_through
+          (λ clause. All (λ l. InClosure clauses (negations (many ++ lit ∷ [])) (negation l))
+          clause)
+          (λ clause. All (λ l. InClosure clauses (negations (few ++ lit ∷ [])) (negation l))
+          clause) clauses clauses (All-contains_itself clauses)
+          (λ clause all k d inside known has closed. all k d inside known (given known has closed)
+          closed) is.refuted;
+      learnable =
+          all_through (IsLearnable clauses trail.steps) few many enough.within is.learnable;
+      once = enough.once is.once;
+      stands = is.stands;
+      is_false = is.is_false;
+      present = is.present;
+    }
+  where
+    given : (known : List Lit) → HasAll known (negations (few ++ lit ∷ []))
+        → IsClosed clauses known → HasAll known (negations (many ++ lit ∷ []))
+    given known has closed =
+        subst (HasAll known) (sym (map-append negation many (lit ∷ [])))
+        (All-append (Contains known) (negations many) (negation lit ∷ [])
+        (enough.gives known closed (All-left (Contains known) (negations few)
+        (negation lit ∷ [])
+        (subst (HasAll known) (map-append negation few (lit ∷ [])) has)))
+        (All-right (Contains known) (negations few) (negation lit ∷ [])
+        (subst (HasAll known) (map-append negation few (lit ∷ [])) has)))
+
+module _ {clauses : List (List Lit)} {trail : Assigned} {lower : List Lit} {lit : Lit}
+    (is : IsDerived clauses trail lower lit) where
+  -- the others are of other variables
+  apart : (other : Lit) → level_at trail.steps other < present_level trail.steps
+      → variable other ≡ variable lit → ⊥
+  apart other below same =
+      let level : level_at trail.steps other ≡ present_level trail.steps =
+      ap (λ v. unwrap_or (level_of trail.steps v) 0) same
+      ∙ ap (λ o. unwrap_or o 0) is.present in
+      omega (arith, below, level)
+
+  pub learned_stands : All (StandsIn clauses) (lower ++ lit ∷ [])
+  learned_stands =
+      All-push (StandsIn clauses) lower lit (λ k d inside. (is.learnable k d inside).stands)
+      is.stands
+
+  pub learned_false : All (IsFalse trail.steps) (lower ++ lit ∷ [])
+  learned_false =
+      All-push (IsFalse trail.steps) lower lit
+      (λ k d inside. (is.learnable k d inside).is_false) is.is_false
+
+  pub learned_once : HasNoVariableTwice (lower ++ lit ∷ [])
+  learned_once =
+      all_pairs_push (λ one two. variable one ≢ variable two) lower lit is.once
+      (λ k d inside. apart (get_or lower k d) (is.learnable k d inside).below)
+
+  pub learned_over : All (IsOver trail.vars) (lower ++ lit ∷ [])
+  learned_over =
+      All-weaker (IsFalse trail.steps) (IsOver trail.vars) (λ l. false_over trail l is.is_trail)
+      (lower ++ lit ∷ []) learned_false
+
+  pub lower_over : All (IsOver trail.vars) lower
+  lower_over k d inside =
+      false_over trail (get_or lower k d) is.is_trail (is.learnable k d inside).is_false
+
+  pub learned_asserting : IsAsserting trail.steps (lower ++ lit ∷ []) lit
+  learned_asserting =
+      record {
+        here = Contains-push lower lit;
+        present = is.present;
+        others =
+            All-push
+            (λ other. other ≢ lit → level_at trail.steps other < present_level trail.steps)
+            lower lit (λ k d inside differs. (is.learnable k d inside).below)
+            (λ differs. absurd (differs refl));
+      }
+
+  -- the others are the literals of lower levels
+  pub learned_others : others (lower ++ lit ∷ []) lit ≡ lower
+  learned_others =
+      filter-append (λ other. not (eqb other.0 lit.0)) lower (lit ∷ [])
+      ∙ ap₂ (λ xs b. xs ++ cond b (lit ∷ []) [])
+      (filter_all (λ other. not (eqb other.0 lit.0)) lower
+      (λ k d inside. not_from_false (eqb (get_or lower k d).0 lit.0)
+      (ne_eqb (get_or lower k d).0 lit.0
+      (λ same. apart (get_or lower k d) (is.learnable k d inside).below
+      (ap (λ n. n / 2) same)))))
+      (ap not (eq-eqb lit.0 lit.0 refl))
+      ∙ append-nil lower
 
 -- one literal more
 pub greatest_push : (steps : List Step) (xs : List Lit) (x : Lit)

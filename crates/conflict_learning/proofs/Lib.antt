@@ -4,6 +4,7 @@ pub mod GivenLemmas
 pub mod WalkLemmas
 pub mod ClearLemmas
 pub mod LearnedLemmas
+pub mod MinimisationLemmas
 pub mod CellLemmas
 pub mod CoreLemmas
 pub mod UnitLemmas

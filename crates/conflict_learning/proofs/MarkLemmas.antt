@@ -1,16 +1,23 @@
--- How many assignments are open when a variable is marked or an assignment is passed.
+-- How many assignments are open when a variable is marked or an assignment is passed, and what is
+-- listed.
 use Rattle.std.proofs.Common.{◌≡◌, ◌≢◌, ℕ, suc, ◌+◌, ◌<◌, Bool, true, false, cond, eqb, List, []}
-use Rattle.std.proofs.Common.{◌∷◌, length, set, Some, refl, sym, ap, ap₂, ◌∙◌, subst, inl, inr}
+use Rattle.std.proofs.Common.{◌∷◌, ◌++◌, get_or, length, map, set, Some, refl, sym, ap, ap₂, ◌∙◌}
+use Rattle.std.proofs.Common.{subst, inl, inr}
 use Rattle.std.proofs.Common.{arith, get_or-set_same, get_or-set_other}
-use Rattle.std.specs.Prelude.{All, AllPairs, count_by, ◌&&◌}
+use Rattle.std.specs.Prelude.{All, AllPairs, Contains, count_by, ◌&&◌}
 use Rattle.std.proofs.lemmas.Bool.{cases_Bool, cases_eq, eqb-true, eqb-false}
 use Rattle.std.proofs.lemmas.List.Elements.{All-nil, All-cons, All-head, All-tail}
+use Rattle.std.proofs.lemmas.List.Elements.{All-contains, All-contains_itself, All-push}
 use Rattle.std.proofs.lemmas.List.Sums.{sum_by-cons}
 use Rattle.std.proofs.lemmas.Option.{same_Some}
+use Rattle.clause_store.specs.declared.literal.Lit.{Lit}
+use Rattle.clause_store.specs.declared.literal.Var.{Var}
 use Rattle.clause_store.specs.declared.step.Step.{Step}
-use Rattle.clause_store.specs.Clause.{variable}
+use Rattle.clause_store.specs.Clause.{variable, IsOver}
+use Rattle.clause_store.proofs.LiteralLemmas.{mapped_from}
 use Rattle.clause_store.specs.Trail.{step_of}
-use Rattle.conflict_learning.specs.Marks.{is_marked, IsMarked, is_open}
+use Rattle.conflict_learning.specs.Analysis.{IsVariable}
+use Rattle.conflict_learning.specs.Marks.{is_marked, IsMarked, is_open, ListsVariables}
 
 -- other variables keep their marks
 pub marked_other : (marks : List Bool) (var other : ℕ) → other ≢ var
@@ -150,3 +157,23 @@ count_none p [] none = refl
 count_none p (x ∷ xs) none =
     let first : one_if (p x) ≡ 0 = ap one_if (All-head (λ y. p y ≡ false) x xs none) in
     omega (arith, first, count_cons p x xs, count_none p xs (All-tail (λ y. p y ≡ false) x xs none))
+
+-- one variable more is listed
+pub lists_more : (lits : List Lit) (old mid new : List Var) (lit : Lit) (var : Var)
+    → ListsVariables lits old mid → Contains lits lit → var.0 ≡ variable lit
+    → new ≡ mid ++ var ∷ [] → ListsVariables lits old new
+lists_more lits old mid new lit var lists here is pushed vars over before =
+    let one = All-contains (IsOver vars) lits lit over here in
+    subst (All (IsVariable vars)) (sym pushed)
+    (All-push (IsVariable vars) mid var (lists vars over before)
+    (record { first = omega (arith, one.first, is); last = omega (arith, one.last, is) }))
+
+-- the variables of all assignments are in range
+pub steps_over : (vars : ℕ) (steps : List Step) → All (λ step. IsOver vars step.lit) steps
+    → All (IsOver vars) (map (λ step. step.lit) steps)
+steps_over vars steps over k d inside =
+    let from =
+    mapped_from (λ step. step.lit) steps (get_or (map (λ step. step.lit) steps) k d)
+    (All-contains_itself (map (λ step. step.lit) steps) k d inside) in
+    subst (IsOver vars) from.2
+    (All-contains (λ step. IsOver vars step.lit) steps from.0 over from.1)

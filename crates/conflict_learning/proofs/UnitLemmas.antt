@@ -41,7 +41,7 @@ greatest_below steps (first ∷ rest) level some below =
     )
 
 -- a literal beside another differs from it
-beside_differs : (other lit : Lit) → not (eqb other.0 lit.0) ≡ true → other ≢ lit
+pub beside_differs : (other lit : Lit) → not (eqb other.0 lit.0) ≡ true → other ≢ lit
 beside_differs other lit passes same =
     false≢true (sym (ap not (eq-eqb other.0 lit.0 (ap (λ l. l.0) same))) ∙ passes)
 

@@ -34,7 +34,7 @@ use Rattle.conflict_learning.proofs.GivenLemmas.{open_parts, from_front}
 -- ---- the assignment of a variable
 
 -- an assignment of the variable is the one that is found
-step_by : (trail : Assigned) (lit : Lit) (step found : Step) → IsTrail trail
+pub step_by : (trail : Assigned) (lit : Lit) (step found : Step) → IsTrail trail
     → Contains trail.steps step → variable step.lit ≡ variable lit
     → step_of trail.steps (variable lit) ≡ Some found → step ≡ found
 step_by trail lit step found is here same by =

@@ -1,11 +1,18 @@
 -- What the analysis of a conflict gives.
-use Rattle.std.specs.Prelude.{◌≡◌, ◌≢◌, ◌<◌, ℕ, max, List, [], ◌∷◌, All, Any, Contains, slice_get}
+use Rattle.std.specs.Prelude.{◌≡◌, ◌≢◌, ◌<◌, ◌≤◌, ℕ, max, List, [], ◌∷◌, All, Any, Contains}
+use Rattle.std.specs.Prelude.{slice_get}
 use Rattle.std.specs.Prelude.{Some, unwrap_or}
 use Rattle.clause_store.specs.declared.literal.Lit.{Lit}
+use Rattle.clause_store.specs.declared.literal.Var.{Var}
 use Rattle.clause_store.specs.declared.literal.ClauseRef.{ClauseRef}
 use Rattle.clause_store.specs.declared.step.Step.{Step}
 use Rattle.clause_store.specs.Clause.{variable}
 use Rattle.clause_store.specs.Trail.{level_of, present_level}
+
+-- a variable is one of 1 to `vars`
+pub record IsVariable (vars : ℕ) (var : Var) : Type 0 where
+  pub first : 1 ≤ var.0
+  pub last : var.0 ≤ vars
 
 -- a literal is one of a clause of the store
 abbrev pub StandsIn : List (List Lit) → Lit → Type 0

@@ -5,8 +5,8 @@ use Rattle.std.specs.Prelude.{All, Any, Contains, IsTrue, count_by, slice_get, S
 use Rattle.clause_store.specs.declared.literal.Lit.{Lit}
 use Rattle.clause_store.specs.declared.step.Step.{Step}
 use Rattle.clause_store.specs.Clause.{variable, negation, HasAll, HasNoVariableTwice, IsOver}
-use Rattle.clause_store.specs.Entailment.{IsClosed, negations}
-use Rattle.clause_store.specs.Trail.{Assigned, IsTrail, present_level}
+use Rattle.clause_store.specs.Entailment.{IsClosed, Refutes, negations}
+use Rattle.clause_store.specs.Trail.{Assigned, IsTrail, level_of, present_level}
 use Rattle.clause_store.specs.Standing.{IsFalse}
 use Rattle.conflict_learning.specs.Analysis.{StandsIn, level_at}
 use Rattle.conflict_learning.specs.Marks.{IsMarked, is_open}
@@ -134,3 +134,20 @@ pub record ResolvesTo (clauses : List (List Lit)) (trail : Assigned) (old new : 
   pub stands : AllStand clauses trail old → AllStand clauses trail new
   pub given : (given : Lit) → GivenBy clauses trail old [] given
       → GivenBy clauses trail new (step.lit ∷ []) given
+
+-- a literal of a lower level that may stand in a learned clause
+pub record IsLearnable (clauses : List (List Lit)) (steps : List Step) (lit : Lit) : Type 0 where
+  pub stands : StandsIn clauses lit
+  pub is_false : IsFalse steps lit
+  pub below : level_at steps lit < present_level steps
+
+-- literals of lower levels and one of the present level are a clause to be learned
+pub record IsDerived (clauses : List (List Lit)) (trail : Assigned) (lower : List Lit) (lit : Lit) :
+    Type 0 where
+  pub is_trail : IsTrail trail
+  pub refuted : Refutes clauses (negations (lower ++ lit ∷ []))
+  pub learnable : All (IsLearnable clauses trail.steps) lower
+  pub once : HasNoVariableTwice lower
+  pub stands : StandsIn clauses lit
+  pub is_false : IsFalse trail.steps lit
+  pub present : level_of trail.steps (variable lit) ≡ Some (present_level trail.steps)

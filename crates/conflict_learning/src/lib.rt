@@ -7,6 +7,7 @@ mod assumption_core;
 pub mod laws;
 mod learned;
 mod marks;
+mod minimisation;
 mod walk;
 
 pub use analysis::{analyse, greatest_level};

@@ -1,11 +1,11 @@
 // Marks on variables. The table of a walk is kept for the next one, and each walk takes its own
 // marks away again. So a walk pays for what it visits, and not for each variable.
-ghost use Rattle.std.specs.Prelude.{◌≡◌, ◌<◌, ◌≤◌, [], ℕ, All, false, length, IfOk};
+ghost use Rattle.std.specs.Prelude.{◌≡◌, ◌<◌, ◌≤◌, [], ℕ, All, false, length, map, IfOk, OnOk};
 ghost use Rattle.clause_store.specs.Clause.{variable};
-ghost use Rattle.conflict_learning.specs.Marks.{HasNoMark, IsMarked, is_marked};
+ghost use Rattle.conflict_learning.specs.Marks.{HasNoMark, IsMarked, ListsVariables, is_marked};
 
-use clause_store::{Lit, Step};
-use item_list::NoMemory;
+use clause_store::{Lit, Step, Var};
+use item_list::{List, NoMemory};
 use std::alloc::Global;
 use std::marker::Model;
 
@@ -93,4 +93,34 @@ pub fn unmark_lits(lits: &[Lit], marks: &mut [bool])
     for lit in lits {
         marks[lit.var().0 as usize] = false;
     }
+}
+
+/// Lists the variables of assignments that are marked.
+pub fn list_steps(
+    alloc: Global,
+    steps: &[Step],
+    marks: &[bool],
+    visited: &mut List<Var>,
+) -> Result<(), NoMemory>
+    requires { All (λ step. variable step.lit < length marks.now) steps.now }
+    ensures { OnOk result
+        (ListsVariables (map (λ step. step.lit) steps.now) visited.old visited.new) }
+{
+    for step in steps {
+        let var = step.lit.var();
+        if marks[var.0 as usize] {
+            visited.push(alloc, var)?;
+        }
+    }
+    Ok(())
+}
+
+/// Lists the variables of literals.
+pub fn list_lits(alloc: Global, lits: &[Lit], visited: &mut List<Var>) -> Result<(), NoMemory>
+    ensures { OnOk result (ListsVariables lits.now visited.old visited.new) }
+{
+    for lit in lits {
+        visited.push(alloc, lit.var())?;
+    }
+    Ok(())
 }

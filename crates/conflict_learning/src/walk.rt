@@ -2,19 +2,19 @@
 // each open assignment, the literal that it made false. An assignment is open where its variable is
 // marked and it is of the present level and not passed yet. The table of marks and the clause are
 // lent by who walks, and given back at the end.
-ghost use Rattle.std.specs.Prelude.{◌≡◌, ◌≢◌, ◌<◌, ◌∷◌, [], ◌++◌, ◌^◌, ◌↔◌, ℕ, All, List, IsTrue};
+ghost use Rattle.std.specs.Prelude.{◌≡◌, ◌≢◌, ◌<◌, ◌^◌, ◌↔◌, ℕ, All, List, IsTrue};
 ghost use Rattle.std.specs.Prelude.{take, length, OnOk, IfOk};
 ghost use Rattle.clause_store.specs.Clause.{variable, IsOver};
 ghost use Rattle.clause_store.specs.Standing.{IsFalse};
 ghost use Rattle.clause_store.specs.Trail.{IsTrailOf};
-ghost use Rattle.conflict_learning.specs.Analysis.{level_at};
+ghost use Rattle.conflict_learning.specs.Analysis.{IsVariable, level_at};
 ghost use Rattle.conflict_learning.specs.Marks.{HasNoMark, is_open};
 ghost use Rattle.conflict_learning.specs.Walk.{Begins, IsUnderWay, IsNotable, IsNoted, Notes};
 ghost use Rattle.conflict_learning.specs.Walk.{NotesAll, GoesBack, ResolvesTo};
 
-use crate::marks::{unmark_lits, unmark_steps};
-use clause_store::{Clause, Lit, Step, Store, Trail, Value};
-use item_list::NoMemory;
+use crate::marks::{list_lits, list_steps, unmark_lits, unmark_steps};
+use clause_store::{Clause, Lit, Step, Store, Trail, Value, Var};
+use item_list::{List, NoMemory};
 use std::alloc::Global;
 
 /// A clause on its way to be learned.
@@ -43,13 +43,6 @@ impl Walk {
             unresolved: 0,
             at: trail.steps().len(),
         }
-    }
-
-    /// The noted literals of lower levels.
-    pub fn clause(&self) -> &[Lit]
-        ensures { result.now ≡ self.now.clause }
-    {
-        self.clause.as_slice()
     }
 
     /// Notes the literals of a clause that are false.
@@ -127,22 +120,32 @@ impl Walk {
         Ok(step.lit.negated())
     }
 
-    /// The noted literals of lower levels and one literal more, and the table with no mark set.
-    /// Nothing may be open any more.
-    pub fn finish(
-        mut self,
+    /// Lists the variables of the passed assignments that were open, and those of the clause.
+    pub fn list_visited(
+        &self,
         alloc: Global,
         trail: &Trail,
-        last: Lit,
-    ) -> Result<(Clause, Vec<bool>), NoMemory>
+        visited: &mut List<Var>,
+    ) -> Result<(), NoMemory>
+        requires under_way { IsUnderWay trail.now self.now }
+        ensures { OnOk result (All (IsVariable trail.now.vars) visited.new) }
+    {
+        visited.clear();
+        list_steps(alloc, &trail.steps()[self.at..], &self.marks, visited)?;
+        list_lits(alloc, self.clause.as_slice(), visited)?;
+        Ok(())
+    }
+
+    /// The noted literals of lower levels, and the table with no mark set. Nothing may be open any
+    /// more.
+    pub fn finish(mut self, trail: &Trail) -> (Clause, Vec<bool>)
         requires under_way { IsUnderWay trail.now self }
         requires none { self.unresolved ≡ 0 }
-        ensures clause { IfOk result (λ done. done.0 ≡ self.clause ++ last ∷ []) }
-        ensures unmarked { IfOk result (λ done. HasNoMark done.1.items) }
+        ensures clause { result.0 ≡ self.clause }
+        ensures unmarked { HasNoMark result.1.items }
     {
         self.clear_marks(trail);
-        self.clause.push(alloc, last)?;
-        Ok((self.clause, self.marks))
+        (self.clause, self.marks)
     }
 
     /// Takes all marks away: those that are left are of passed assignments or of the clause.

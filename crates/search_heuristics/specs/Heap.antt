@@ -1,7 +1,8 @@
 -- The layout of a heap of variables by activity. No public clause cites this module.
 use Rattle.std.specs.Prelude.{◌≡◌, ◌<◌, ◌≤◌, ◌^◌, ℕ, List, All, length}
 
--- what a contract sees of a heap: how many variables are numbered, from 0 on, and how many are in it
+-- what a contract sees of a heap: how many variables are numbered, from 0 on, and how many of them
+-- are in it
 pub record Heaped : Type 0 where
   pub size : ℕ
   pub count : ℕ

@@ -1,6 +1,6 @@
 -- How far the assumed literals are known to be true, by levels.
-use Rattle.std.specs.Prelude.{◌≡◌, ◌≢◌, ◌<◌, ◌≤◌, ◌+◌, ℕ, List, length, take, slice_get, slice_index}
-use Rattle.std.specs.Prelude.{◌++◌, ◌∷◌, [], All, Some}
+use Rattle.std.specs.Prelude.{◌≡◌, ◌≢◌, ◌<◌, ◌≤◌, ◌+◌, ℕ, List, length, take, slice_get}
+use Rattle.std.specs.Prelude.{slice_index, ◌++◌, ◌∷◌, [], All, Some}
 use Rattle.clause_store.specs.declared.literal.Lit.{Lit}
 use Rattle.clause_store.specs.declared.literal.Value.TheVariants.{Yes}
 use Rattle.clause_store.specs.declared.step.Step.{Step}

@@ -1,8 +1,8 @@
 // Which assumed literal is next. Those before a place that is kept for a level are true by the
 // assignments up to that level, so they are looked at again only once these have gone. What is kept
 // for levels above the present one says nothing, so going back has nothing to do.
-ghost use Rattle.std.specs.Prelude.{◌≡◌, ◌≢◌, ◌<◌, ◌^◌, ◌+◌, ℕ, List, All, IfNone, IfSome, IsSomeAnd};
-ghost use Rattle.std.specs.Prelude.{None, length, slice_index, slice_get, slice_set, take};
+ghost use Rattle.std.specs.Prelude.{◌≡◌, ◌≢◌, ◌<◌, ◌^◌, ◌+◌, ℕ, List, All, IfNone, IfSome, take};
+ghost use Rattle.std.specs.Prelude.{IsSomeAnd, None, length, slice_index, slice_get, slice_set};
 ghost use Rattle.clause_store.specs.Clause.{IsOver};
 ghost use Rattle.clause_store.specs.Trail.{present_level, value_of};
 ghost use Rattle.search_heuristics.specs.Places.{AreTrueBefore, AreTrueOn, IsFirstNotTrue};

@@ -7,3 +7,10 @@ pub mod BodyLemmas
 pub mod KeptLemmas
 pub mod MeaningLemmas
 pub mod RowsLemmas
+pub mod StackLemmas
+pub mod PlaceLemmas
+pub mod SumLemmas
+pub mod TallyLemmas
+pub mod FollowLemmas
+pub mod KeptSumLemmas
+pub mod OpenLemmas

@@ -2,9 +2,10 @@
 use Rattle.std.proofs.Common.{◌≡◌, ◌≢◌, ◌≤◌, ◌<◌, ◌+◌, ◌*◌, ℕ, suc, Bool, true, false}
 use Rattle.std.proofs.Common.{cond, List, [], ◌∷◌, ◌++◌, length, map, get_or, take, Option}
 use Rattle.std.proofs.Common.{Some, slice_get, refl, sym, ap, ◌∙◌, subst, inl, inr, arith}
+use Rattle.std.specs.Prelude.{Result, Ok, Err, IfOk}
 use Rattle.std.specs.Prelude.{All, Any, AllPairs, Contains, filter, sum_by, if◌then◌else◌}
 use Rattle.std.proofs.lemmas.Bool.{cases_Bool, cases_eq, false≢true}
-use Rattle.std.proofs.lemmas.List.{append-nil, map-append}
+use Rattle.std.proofs.lemmas.List.{append-nil, get_or_default, length-append, map-append}
 use Rattle.std.proofs.lemmas.List.Elements.{All-contains, All-nil, All-push, All-filter, All-map}
 use Rattle.std.proofs.lemmas.List.Elements.{filter_more}
 use Rattle.std.proofs.lemmas.List.Quantifiers.{Any-push}
@@ -13,6 +14,8 @@ use Rattle.std.proofs.lemmas.Option.{same_Some, slice_get_within}
 use Rattle.ground_program.specs.declared.program.AtomLit.{AtomLit}
 use Rattle.clause_store.specs.declared.literal.Lit.{Lit}
 use Rattle.clause_store.specs.declared.step.Step.{Step}
+use Rattle.clause_store.specs.declared.theory_says.Says.{Says}
+use Rattle.clause_store.specs.declared.theory_says.Says.TheVariants.{Quiet, Clause as Given}
 use Rattle.clause_store.specs.Clause.{variable}
 use Rattle.clause_store.specs.Trail.{Assigned}
 use Rattle.normal_program.specs.declared.normal.Part.{Part}
@@ -27,8 +30,9 @@ use Rattle.item_list.proofs.ListLemmas.{Any-append_left}
 use Rattle.weight_propagator.specs.declared.row.Term.{Term}
 use Rattle.weight_propagator.specs.declared.row.Row.{Row}
 use Rattle.weight_propagator.specs.Gives.{IsQuiet}
-use Rattle.weight_propagator.specs.Weighed.{IsGiven}
-use Rattle.weight_propagator.specs.Rows.{all_sum, RowGives, IsRow, IsGivenBy, is_kept}
+use Rattle.weight_propagator.specs.Weighed.{IsGiven, IsSaid}
+use Rattle.weight_propagator.specs.Kept.{IsSettled}
+use Rattle.weight_propagator.specs.Rows.{all_sum, RowGives, IsRow, IsSized, IsGivenBy, is_kept}
 use Rattle.weight_propagator.specs.Rows.{given_weight, term_of, kept_terms, given_sum}
 use Rattle.weight_propagator.specs.Rows.{IsRowOf, IsRowIn, AreRowsTo, AreRows}
 use Rattle.normal_program.proofs.lemmas.Base.TruthLemmas.{variable-literal_of}
@@ -224,6 +228,7 @@ module _ (inside : Option (List Bool)) (normal : Normal) (number : ℕ) (rows : 
   pub rows_with : (body : BodyOf) (row : Row) → IsRowOf inside normal number body row
       → AreRowsTo inside normal (number + 1) (rows ++ row ∷ [])
   rows_with body row is = record {
+    few = omega (arith, are.few, length-append rows (row ∷ []));
     each =
         All-push (IsRowIn inside normal) rows row are.each
         (record { number = number; body = body; is = is });
@@ -245,6 +250,7 @@ module _ (inside : Option (List Bool)) (normal : Normal) (number : ℕ) (rows : 
   pub rows_without : (body : BodyOf) → slice_get normal.bodies number ≡ Some body
       → is_conjunctive body ≡ true → AreRowsTo inside normal (number + 1) rows
   rows_without body here conjunctive = record {
+    few = omega (arith, are.few);
     each = are.each;
     complete = λ at other low there weight.
         elim (cases_eq at number) [
@@ -259,6 +265,7 @@ module _ (inside : Option (List Bool)) (normal : Normal) (number : ℕ) (rows : 
 
 pub rows_none : (inside : Option (List Bool)) (normal : Normal) → AreRowsTo inside normal 0 []
 rows_none inside normal = record {
+  few = omega arith;
   each = All-nil (IsRowIn inside normal);
   complete = λ at other low here weight. absurd (omega (arith, low));
 }
@@ -279,6 +286,16 @@ module _ (inside : Option (List Bool)) (normal : Normal) (rows : List Row)
       (row_is_sound inside normal are.normal_form in_normal.number in_normal.body row
       (slice_get_within normal.bodies in_normal.number in_normal.body in_normal.is.here)
       in_normal.is)
+
+  pub all_sound : (vars : ℕ) → greatest_body_var normal ≤ vars → All (IsRow vars) rows
+  all_sound vars more k d within =
+      each_sound vars more (get_or rows k d)
+      (k, within, get_or_default rows k (get_or rows k d) d within)
+
+  -- and far from wrapping
+  pub all_sized : All IsSized rows
+  all_sized k d within =
+      (all_sound (greatest_body_var normal) (omega arith) k d within).sized
 
   -- where none of them gives a clause, no weight body does
   pub all_quiet : (steps : List Step) → All (λ row. ¬ RowGives steps row) rows
@@ -311,3 +328,15 @@ module _ (inside : Option (List Bool)) (normal : Normal) (rows : List Row)
         once = is.once;
         over = is.over;
       }
+
+  -- so what is found of all kept bodies is the answer
+  pub all_said : (trail : Assigned) (clause : List Lit) (says : Says)
+      → IsSettled rows trail clause says → IsSaid inside normal trail clause says
+  all_said trail clause Quiet none = all_quiet trail.steps none
+  all_said trail clause Given (k, row, within, at, is) =
+      one_given trail row clause (k, within, at) is
+
+  pub all_said_if : {E : Type 0} (trail : Assigned) (clause : List Lit) (result : Result Says E)
+      → IfOk result (IsSettled rows trail clause) → IfOk result (IsSaid inside normal trail clause)
+  all_said_if trail clause (Ok says) is = all_said trail clause says is
+  all_said_if trail clause (Err why) is = tt

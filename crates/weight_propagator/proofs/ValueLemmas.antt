@@ -26,8 +26,8 @@ or_none true b is = absurd (false≢true (sym is))
 or_none false b is = (refl, is)
 
 -- two literals of one variable have one value only if they are the same
-other_code : (one two step : ℕ) → one / 2 ≡ two / 2 → step / 2 ≡ one / 2 → step ≢ one → step ≢ two
-    → one ≡ two
+pub other_code : (one two step : ℕ) → one / 2 ≡ two / 2 → step / 2 ≡ one / 2 → step ≢ one
+    → step ≢ two → one ≡ two
 other_code one two step same here not_one not_two = omega arith
 
 by_step : (step : Step) (one two : Lit) → variable one ≡ variable two

@@ -225,6 +225,7 @@ pub record IsRowIn (inside : Option (List Bool)) (normal : Normal) (row : Row) :
 -- just the weight bodies before a number are kept
 pub record AreRowsTo (inside : Option (List Bool)) (normal : Normal) (to : ℕ) (rows : List Row) :
     Type 0 where
+  pub few : length rows ≤ to
   pub each : All (IsRowIn inside normal) rows
   pub complete :
       (number : ℕ) (body : BodyOf) → number < to → slice_get normal.bodies number ≡ Some body

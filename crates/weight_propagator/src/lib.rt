@@ -2,10 +2,15 @@
 #![tactic(auto)]
 
 mod build;
+mod gathering;
 mod look;
+mod occurrences;
 mod reason;
 mod row;
+mod settling;
 mod side;
+mod tally;
+mod waiting;
 mod weights;
 
 pub use weights::Weights;

@@ -73,29 +73,6 @@ impl Row {
         Ok(())
     }
 
-    /// The sums of a body.
-    pub fn sums(&self, trail: &Trail) -> Sums
-        requires { IsRow trail.now.vars self.now }
-        ensures yes { result.yes ≡ yes_sum trail.now.steps self.now.terms }
-        ensures possible { result.possible ≡ not_no_sum trail.now.steps self.now.terms }
-    {
-        let mut sums = Sums {
-            yes: 0,
-            possible: 0,
-        };
-        for term in self.terms.as_slice() {
-            match trail.value(term.lit) {
-                Value::Yes => {
-                    sums.yes += term.weight;
-                    sums.possible += term.weight;
-                }
-                Value::Unset => sums.possible += term.weight,
-                Value::No => {}
-            }
-        }
-        sums
-    }
-
     /// Whether the body gives a clause, and for which cause.
     pub fn case(&self, sums: Sums, trail: &Trail) -> Case
         requires row { IsRow trail.now.vars self.now }

@@ -1,14 +1,21 @@
-// This body keeps no sums: it computes those of each body anew, so it has no assignment to follow.
-ghost use Rattle.std.specs.Prelude.{◌≡◌, ◌≤◌, [], Some, None, IfOk, IfSome};
+// The weight bodies with their sums. What the trail has beyond the followed assignments is followed
+// first; then only the bodies that were touched are looked at.
+ghost use Rattle.std.specs.Prelude.{◌≡◌, ◌≤◌, ◌≢◌, ◌-◌, ◌++◌, ◌∷◌, [], map, length, take};
+ghost use Rattle.std.specs.Prelude.{Some, None, All, OnOk, OnErr, IfOk, IfSome};
 ghost use Rattle.ground_program.specs.Meaning.{IsSetOver};
-ghost use Rattle.clause_store.specs.Standing.{AreFollowed, HasGoneBack};
+ghost use Rattle.clause_store.specs.Clause.{variable};
+ghost use Rattle.clause_store.specs.Standing.{AreFollowed, HasGoneBack, as_followed};
 ghost use Rattle.normal_program.specs.Limit.{IsNormal};
 ghost use Rattle.normal_program.specs.Normal.{greatest_body_var};
 ghost use Rattle.weight_propagator.specs.Weighed.{IsSaid};
 
 use crate::build::rows_of;
+use crate::gathering::gather;
+use crate::occurrences::Occurrences;
 use crate::row::Row;
-use clause_store::{Clause, Says, Trail};
+use crate::settling::settle;
+use crate::tally::{Tally, Way};
+use clause_store::{Clause, Says, Step, Trail};
 use ground_program::Set;
 use item_list::NoMemory;
 use normal_program::Normal;
@@ -23,22 +30,27 @@ pub struct Weights {
     made_of: Snapshot<Normal>,
     inside: Snapshot<Option<Set>>,
     rows: Vec<Row>,
+    occurrences: Occurrences,
+    tally: Tally,
+    followed: Vec<Step>,
 }
 
 impl Model for Weights {
-    ghost use Rattle.std.specs.Prelude.{[]};
+    ghost use Rattle.std.specs.Prelude.{map};
+    ghost use Rattle.clause_store.specs.Standing.{as_followed};
     ghost use Rattle.weight_propagator.specs.Weighed.{Weighed};
-    ghost use Rattle.weight_propagator.specs.Rows.{AreRows};
+    ghost use Rattle.weight_propagator.specs.Kept.{AreKept};
 
     ghost Value = { Weighed };
 
     ghost view = { λ it. record {
       normal = it.made_of.value;
       inside = it.inside.value;
-      followed = [];
+      followed = map as_followed it.followed.items;
     } };
 
-    ghost invariant = { λ it. AreRows it.inside.value it.made_of.value it.rows.items };
+    ghost invariant = { λ it. AreKept it.inside.value it.made_of.value it.rows.items it.occurrences
+        it.tally it.followed.items };
 }
 
 impl Weights {
@@ -70,10 +82,16 @@ impl Weights {
             ≡ record { normal = normal.now; inside = inside; followed = [] }) }
     {
         let rows = rows_of(alloc, normal, &inside)?;
+        let places = gather(alloc, &rows, normal.greatest_body_var())?;
+        let occurrences = Occurrences::of(alloc, &places)?;
+        let tally = Tally::open(alloc, rows.len() as u32)?;
         Ok(Weights {
             made_of: Snapshot::of(normal),
             inside: Snapshot::of(&inside),
             rows,
+            occurrences,
+            tally,
+            followed: Vec::new(alloc),
         })
     }
 
@@ -95,13 +113,8 @@ impl Weights {
         ensures rest { self.new ≡ record self.old { followed = self.new.followed } }
     {
         let _ = normal;
-        for row in &self.rows {
-            let sums = row.sums(trail);
-            if let Says::Clause = row.look(alloc, sums, trail, out)? {
-                return Ok(Says::Clause);
-            }
-        }
-        Ok(Says::Quiet)
+        self.follow(trail)?;
+        settle(alloc, &self.rows, &mut self.tally, trail, out)
     }
 
     /// Follows only assignments of the trail. It is called after each going back of the trail, and
@@ -112,8 +125,56 @@ impl Weights {
         ensures followed { AreFollowed trail.now.steps self.new.followed }
         ensures rest { self.new ≡ record self.old { followed = self.new.followed } }
     {
-        let _ = trail;
-        let _ = self.rows.len();
+        let left = trail.steps().len();
+        while self.count() > left {
+            self.forget();
+        }
+    }
+
+    // Follows the assignments that the trail has beyond.
+    fn follow(&mut self, trail: &Trail) -> Result<(), NoMemory>
+        requires { AreFollowed trail.now.steps self.old.followed }
+        ensures all { OnOk result (self.new.followed ≡ map as_followed trail.now.steps) }
+        ensures followed { AreFollowed trail.now.steps self.new.followed }
+        ensures rest { self.new ≡ record self.old { followed = self.new.followed } }
+    {
+        let steps = trail.steps();
+        while self.count() < steps.len() {
+            let step = steps[self.count()];
+            self.follow_step(step)?;
+        }
+        Ok(())
+    }
+
+    // How many assignments are followed.
+    fn count(&self) -> usize
+        ensures { result ≡ length self.now.followed }
+    {
+        self.followed.len()
+    }
+
+    // Follows one assignment more.
+    fn follow_step(&mut self, step: Step) -> Result<(), NoMemory>
+        requires { All (λ one. variable one.lit ≢ variable step.lit) self.old.followed }
+        ensures ok { OnOk result (self.new ≡ record self.old {
+          followed = self.old.followed ++ as_followed step ∷ [];
+        }) }
+        ensures err { OnErr result (self.new ≡ self.old) }
+    {
+        self.followed.push(step)?;
+        self.tally.turn(&self.occurrences, step.lit, Way::Comes);
+        Ok(())
+    }
+
+    // Follows the last assignment no more.
+    fn forget(&mut self)
+        ensures { self.new ≡ record self.old {
+          followed = take (length self.old.followed - 1) self.old.followed;
+        } }
+    {
+        if let Some(step) = self.followed.pop() {
+            self.tally.turn(&self.occurrences, step.lit, Way::Leaves);
+        }
     }
 }
 

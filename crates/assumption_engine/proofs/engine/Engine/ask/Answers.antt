@@ -55,7 +55,8 @@ returns-in-Ok-clause-sided g c alive var is is_yes =
     (c.in-Ok.ensures.answer.on.order
     (order_at_start c.begin.new.self.state.clauses c.args.assume.now
     c.begin.new.self.state.trail c.in_default.ensures.back.is_trail
-    c.in_default.ensures.back.of_store c.in_default.ensures.back.present)) var (on.sided var is) is_yes
+    c.in_default.ensures.back.of_store c.in_default.ensures.back.present)) var (on.sided var is)
+    is_yes
 
 pub returns-in-Ok-clause-answer : goal.returns-in-Ok-clause-answer
 returns-in-Ok-clause-answer g c other =

@@ -1,4 +1,4 @@
-use Rattle.std.proofs.Common.{refl, sym, ap, subst, arith}
+use Rattle.std.proofs.Common.{sym, ap, subst, arith}
 use Rattle.clause_store.specs.Clause.{Meets}
 use Rattle.clause_store.specs.Standing.{AreFollowed}
 use Rattle.clause_store.specs.Trail.{IsTotal, values_of}

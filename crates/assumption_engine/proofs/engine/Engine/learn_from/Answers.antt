@@ -119,7 +119,8 @@ returns-in-None-clause-counted g c assumed order =
     c.args.budget.now c.conflicts.budget c.take_learned.new.budget
     (same_then (g.T.Theory.meaning c.args.self.now.theory)
     (g.T.Theory.meaning c.conflicts.self.theory) (g.T.Theory.meaning c.resolve.new.self.theory)
-    c.conflicts.invariant.same c.in_ok-resolve.ensures.same) (right_propagated c.in_ok-resolve.ensures.right c.propagate.ensures.propagated)
+    c.conflicts.invariant.same c.in_ok-resolve.ensures.same)
+    (right_propagated c.in_ok-resolve.ensures.right c.propagate.ensures.propagated)
     (goes_on_down (g.T.Theory.meaning c.args.self.now.theory) assumed c.args.self.now.state
     c.propagate.new.self c.args.budget.now c.conflicts.budget c.conflicts.invariant.budget
     down)

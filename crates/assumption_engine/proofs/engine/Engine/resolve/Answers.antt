@@ -1,4 +1,4 @@
-use Rattle.std.proofs.Common.{◌<◌, ◌∙◌, arith, ap, sym, subst}
+use Rattle.std.proofs.Common.{◌<◌, arith, ap, sym, subst}
 use Rattle.clause_store.specs.Trail.{present_level}
 use Rattle.conflict_learning.proofs.ConflictLemmas.{level_within}
 use Rattle.conflict_learning.proofs.UnitLemmas.{back_is_lower}

@@ -12,7 +12,8 @@ use Rattle.assumption_engine.proofs.SameLemmas.{same_itself, same_then}
 use Rattle.assumption_engine.proofs.StepLemmas.{kept_places}
 use Rattle.assumption_engine.proofs.StepLemmas.{counted_on, goes_on_propagated, may_turn_on}
 use Rattle.assumption_engine.proofs.StepLemmas.{order_propagated, turned_decided, turned_given}
-use Rattle.assumption_engine.proofs.StepLemmas.{if_turned_on, turned_learned, turned_on, turned_still}
+use Rattle.assumption_engine.proofs.StepLemmas.{if_turned_on, turned_learned, turned_on}
+use Rattle.assumption_engine.proofs.StepLemmas.{turned_still}
 use Rattle.assumption_engine.proofs.engine.Engine.turn.Goals as goal
 
 pub returns-in_err-conflict-clause-counted : goal.returns-in_err-conflict-clause-counted
@@ -23,7 +24,8 @@ returns-in_err-conflict-clause-counted g c =
 pub returns-in-Learn-clause-same : goal.returns-in-Learn-clause-same
 returns-in-Learn-clause-same g c =
     same_then (g.T.Theory.meaning c.args.self.now.theory)
-    (g.T.Theory.meaning c.next_task.new.self.theory) (g.T.Theory.meaning c.learn_from.new.self.theory)
+    (g.T.Theory.meaning c.next_task.new.self.theory)
+    (g.T.Theory.meaning c.learn_from.new.self.theory)
     c.next_task.ensures.same c.learn_from.ensures.same
 
 pub returns-in-Learn-clause-counted : goal.returns-in-Learn-clause-counted
@@ -35,8 +37,10 @@ returns-in-Learn-clause-counted g c =
 
 pub returns-in-Learn-clause-turn : goal.returns-in-Learn-clause-turn
 returns-in-Learn-clause-turn g c =
-    if_turned_on (g.T.Theory.meaning c.learn_from.new.self.theory) (g.T.Theory.followed c.learn_from.new.self.theory)
-    c.learn_from.new.self.defined c.args.assumed.now c.args.stop c.learn_from.new.self.state c.args.budget.now c.learn_from.new.budget
+    if_turned_on (g.T.Theory.meaning c.learn_from.new.self.theory)
+    (g.T.Theory.followed c.learn_from.new.self.theory)
+    c.learn_from.new.self.defined c.args.assumed.now c.args.stop c.learn_from.new.self.state
+    c.args.budget.now c.learn_from.new.budget
     c.learn_from.result c.next_task.ensures.same c.next_task.ensures.defined
     c.next_task.ensures.propagated
     (turned_learned (g.T.Theory.meaning c.next_task.new.self.theory)
@@ -51,7 +55,8 @@ returns-in-Learn-clause-turn g c =
 pub returns-in-Take-clause-same : goal.returns-in-Take-clause-same
 returns-in-Take-clause-same g c =
     same_then (g.T.Theory.meaning c.args.self.now.theory)
-    (g.T.Theory.meaning c.next_task.new.self.theory) (g.T.Theory.meaning c.take_given.new.self.theory)
+    (g.T.Theory.meaning c.next_task.new.self.theory)
+    (g.T.Theory.meaning c.take_given.new.self.theory)
     c.next_task.ensures.same c.take_given.ensures.same
 
 pub returns-in-Take-clause-counted : goal.returns-in-Take-clause-counted
@@ -61,19 +66,23 @@ returns-in-Take-clause-counted g c =
 
 pub returns-in-Take-clause-turn : goal.returns-in-Take-clause-turn
 returns-in-Take-clause-turn g c =
-    if_turned_on (g.T.Theory.meaning c.take_given.new.self.theory) (g.T.Theory.followed c.take_given.new.self.theory)
-    c.take_given.new.self.defined c.args.assumed.now c.args.stop c.take_given.new.self.state c.args.budget.now c.args.budget.now
+    if_turned_on (g.T.Theory.meaning c.take_given.new.self.theory)
+    (g.T.Theory.followed c.take_given.new.self.theory)
+    c.take_given.new.self.defined c.args.assumed.now c.args.stop c.take_given.new.self.state
+    c.args.budget.now c.args.budget.now
     c.take_given.result c.next_task.ensures.same c.next_task.ensures.defined
     c.next_task.ensures.propagated
     (turned_given (g.T.Theory.meaning c.take_given.new.self.theory)
     (g.T.Theory.followed c.take_given.new.self.theory) c.next_task.new.self.defined
     c.take_given.new.self.defined c.args.assumed.now c.next_task.new.self.state
-    c.take_given.new.self.state c.take_given.result (same_itself (g.T.Theory.meaning c.next_task.new.self.theory)) c.requires.may.room
+    c.take_given.new.self.state c.take_given.result
+    (same_itself (g.T.Theory.meaning c.next_task.new.self.theory)) c.requires.may.room
     c.take_given.ensures.right c.take_given.ensures.on c.take_given.ensures.turn)
 
 pub core-requires-clause-over : goal.core-requires-clause-over
 core-requires-clause-over g c =
-    let task : MustRefuse c.args.assumed.now c.next_task.new.self.state.trail.steps c.in-Refuse.lit =
+    let task : MustRefuse c.args.assumed.now c.next_task.new.self.state.trail.steps
+    c.in-Refuse.lit =
     subst
     (IsTask (g.T.Theory.meaning c.next_task.new.self.theory) c.args.assumed.now
     c.next_task.new.self.state c.next_task.new.self.given) c.in-Refuse.is
@@ -95,20 +104,24 @@ returns-in_ok-core-in-Refuse-clause-counted g c =
 
 pub returns-in_ok-core-in-Refuse-clause-turn : goal.returns-in_ok-core-in-Refuse-clause-turn
 returns-in_ok-core-in-Refuse-clause-turn g c =
-    let task : MustRefuse c.args.assumed.now c.next_task.new.self.state.trail.steps c.in-Refuse.lit =
+    let task : MustRefuse c.args.assumed.now c.next_task.new.self.state.trail.steps
+    c.in-Refuse.lit =
     subst
     (IsTask (g.T.Theory.meaning c.next_task.new.self.theory) c.args.assumed.now
     c.next_task.new.self.state c.next_task.new.self.given) c.in-Refuse.is
     c.in_ok-conflict.ensures.task in
-    turned_on (g.T.Theory.meaning c.next_task.new.self.theory) (g.T.Theory.followed c.next_task.new.self.theory)
+    turned_on (g.T.Theory.meaning c.next_task.new.self.theory)
+    (g.T.Theory.followed c.next_task.new.self.theory)
     c.next_task.new.self.defined c.args.assumed.now c.args.stop c.next_task.new.self.state
     c.args.budget.now c.args.budget.now (Ended (Core c.in_ok-core-in-Refuse.field-0))
     c.next_task.ensures.same c.next_task.ensures.defined c.next_task.ensures.propagated
-    (turned_still (same_itself (g.T.Theory.meaning c.next_task.new.self.theory)) c.in_ok-conflict.ensures.right
+    (turned_still (same_itself (g.T.Theory.meaning c.next_task.new.self.theory))
+    c.in_ok-conflict.ensures.right
     c.in_ok-conflict.ensures.right.follows
     (record {
       says =
-          core_of (g.T.Theory.meaning c.next_task.new.self.theory) (g.T.Theory.followed c.next_task.new.self.theory)
+          core_of (g.T.Theory.meaning c.next_task.new.self.theory)
+          (g.T.Theory.followed c.next_task.new.self.theory)
           c.next_task.new.self.state c.next_task.new.self.defined c.args.assumed.now
           c.in-Refuse.lit c.in_ok-core-in-Refuse.field-0 c.in_ok-conflict.ensures.right
           (order_propagated c.next_task.ensures.propagated c.requires.may.order).first
@@ -130,7 +143,8 @@ returns-in-Decide-clause-turn g c =
     (IsTask (g.T.Theory.meaning c.next_task.new.self.theory) c.args.assumed.now
     c.next_task.new.self.state c.next_task.new.self.given) c.in-Decide.is
     c.in_ok-conflict.ensures.task in
-    turned_on (g.T.Theory.meaning c.next_task.new.self.theory) (g.T.Theory.followed c.next_task.new.self.theory)
+    turned_on (g.T.Theory.meaning c.next_task.new.self.theory)
+    (g.T.Theory.followed c.next_task.new.self.theory)
     c.next_task.new.self.defined c.args.assumed.now c.args.stop c.decide.new.self
     c.args.budget.now c.args.budget.now Going
     c.next_task.ensures.same c.next_task.ensures.defined c.next_task.ensures.propagated
@@ -144,7 +158,8 @@ check_total-requires-clause-may g c =
 pub returns-in-Check-clause-same : goal.returns-in-Check-clause-same
 returns-in-Check-clause-same g c =
     same_then (g.T.Theory.meaning c.args.self.now.theory)
-    (g.T.Theory.meaning c.next_task.new.self.theory) (g.T.Theory.meaning c.check_total.new.self.theory)
+    (g.T.Theory.meaning c.next_task.new.self.theory)
+    (g.T.Theory.meaning c.check_total.new.self.theory)
     c.next_task.ensures.same c.check_total.ensures.same
 
 pub returns-in-Check-clause-counted : goal.returns-in-Check-clause-counted
@@ -154,8 +169,10 @@ returns-in-Check-clause-counted g c =
 
 pub returns-in-Check-clause-turn : goal.returns-in-Check-clause-turn
 returns-in-Check-clause-turn g c =
-    if_turned_on (g.T.Theory.meaning c.check_total.new.self.theory) (g.T.Theory.followed c.check_total.new.self.theory)
-    c.check_total.new.self.defined c.args.assumed.now c.args.stop c.check_total.new.self.state c.args.budget.now c.args.budget.now
+    if_turned_on (g.T.Theory.meaning c.check_total.new.self.theory)
+    (g.T.Theory.followed c.check_total.new.self.theory)
+    c.check_total.new.self.defined c.args.assumed.now c.args.stop c.check_total.new.self.state
+    c.args.budget.now c.args.budget.now
     c.check_total.result c.next_task.ensures.same c.next_task.ensures.defined
     c.next_task.ensures.propagated
     c.check_total.ensures.turn

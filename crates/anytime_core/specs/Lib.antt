@@ -1,0 +1,9 @@
+pub mod Bits
+pub mod Showing
+pub mod Truth
+pub mod Shareable
+pub mod Knowing
+pub mod Actors
+pub mod Machine
+pub mod Legal
+pub mod Laws

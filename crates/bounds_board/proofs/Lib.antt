@@ -1,0 +1,5 @@
+pub mod RuleLemmas
+pub mod ViewLemmas
+pub mod MaskLemmas
+pub mod ReadLemmas
+pub mod ReportLemmas

@@ -1,0 +1,2 @@
+pub mod AnswerSets
+pub mod Laws

@@ -1,0 +1,4 @@
+pub mod ValueLemmas
+pub mod FoundingLemmas
+pub mod WantedLemmas
+pub mod LoopLemmas

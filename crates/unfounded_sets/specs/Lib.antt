@@ -1,0 +1,4 @@
+pub mod Founding
+pub mod Found
+pub mod Rounds
+pub mod Wanted
