@@ -91,8 +91,7 @@ impl<T: Theory> Engine<T> {
             conflict,
             &mut self.learned,
         )?;
-        self.steering
-            .note_learned(self.state.trail(), self.learned.clause.as_slice());
+        self.steering.note_learned(self.state.trail(), &self.learned);
         self.go_back(self.learned.back);
         Ok(())
     }

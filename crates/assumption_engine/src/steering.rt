@@ -8,7 +8,8 @@ ghost use Rattle.assumption_engine.specs.Task.{IsAssuming, IsChoice};
 
 use crate::marked_state::MarkedState;
 use crate::task::Task;
-use clause_store::{Lit, Trail, Value};
+use clause_store::{Lit, Trail, Value, Var};
+use conflict_learning::Learned;
 use item_list::NoMemory;
 use search_heuristics::{AssumptionPlaces, DecisionOrder, LevelCounter, RestartPace};
 use std::alloc::Global;
@@ -69,14 +70,22 @@ impl Steering {
     }
 
     /// A clause was learned, and the trail is still where it was.
-    pub fn note_learned(&mut self, trail: &Trail, clause: &[Lit])
+    pub fn note_learned(&mut self, trail: &Trail, learned: &Learned)
         ensures { self.new.places ≡ self.old.places }
     {
-        'lits: for lit in clause {
-            self.order.bump(lit.var());
-        }
+        self.bump_all(learned.visited());
         self.order.decay();
-        self.pace.conflict(self.counter.levels_of(trail, clause));
+        self.pace
+            .conflict(self.counter.levels_of(trail, learned.clause.as_slice()));
+    }
+
+    /// Lets the variables that a conflict came from be decided earlier.
+    fn bump_all(&mut self, vars: &[Var])
+        ensures { self.new.places ≡ self.old.places }
+    {
+        'vars: for var in vars {
+            self.order.bump(*var);
+        }
     }
 
     /// The trail is to go back to a level.
