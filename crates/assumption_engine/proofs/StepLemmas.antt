@@ -252,12 +252,12 @@ turned_given {E} {one} {two} {stop} {counted} three followed defined there assum
 turned_given three followed defined there assumed old new (Err e) same room right on is = is
 
 -- places that are kept stay right
-pub kept_places : {X E : Type 0} {old new : List Step} {was places : List ℕ}
-    (result : Result X E) (assumed : List Lit) → OnOk result (KeepsPlaces old new) → places ≡ was
+pub kept_places : {X E : Type 0} {old : List Step} {was places : List ℕ} (result : Result X E)
+    (new : List Step) (assumed : List Lit) → OnOk result (KeepsPlaces old new) → places ≡ was
     → AreTrueBefore assumed old was → OnOk result (AreTrueBefore assumed new places)
-kept_places {X} {E} {old} {new} {was} {places} (Ok x) assumed keeps same are =
+kept_places {X} {E} {old} {was} {places} (Ok x) new assumed keeps same are =
     subst (AreTrueBefore assumed new) (sym same) (keeps assumed was are)
-kept_places (Err e) assumed keeps same are = keeps
+kept_places (Err e) new assumed keeps same are = keeps
 
 -- what is true at success
 pub on_ok_of : {X E : Type 0} {P : X → Type 0} {Q : Type 0} (result : Result X E) → IfOk result P

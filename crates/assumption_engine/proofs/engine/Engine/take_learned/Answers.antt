@@ -20,14 +20,17 @@ returns-in_err-add-in-Unset-clause-counted g c assumed opposites =
 
 pub restart_if_due-requires : goal.restart_if_due-requires
 restart_if_due-requires g c =
-    right_added (g.T.Theory.meaning c.args.self.now.theory)
-    (g.T.Theory.followed c.args.self.now.theory) c.args.self.now.state c.add.new.self
-    c.args.self.now.defined c.args.self.now.learned.clause c.requires.right
-    (c.in_ok-add-in-Unset.ensures.ok
-    ∙ ap (with_clause c.args.self.now.state) c.as_slice-in-Unset.ensures)
-    (λ values model. refuted_follows c.args.self.now.state.clauses
-    c.args.self.now.learned.clause c.requires.learned.refuted values
-    (c.requires.right.holds values model))
+    record {
+      right =
+          right_added (g.T.Theory.meaning c.args.self.now.theory)
+          (g.T.Theory.followed c.args.self.now.theory) c.args.self.now.state c.add.new.self
+          c.args.self.now.defined c.args.self.now.learned.clause c.requires.right
+          (c.in_ok-add-in-Unset.ensures.ok
+          ∙ ap (with_clause c.args.self.now.state) c.as_slice-in-Unset.ensures)
+          (λ values model. refuted_follows c.args.self.now.state.clauses
+          c.args.self.now.learned.clause c.requires.learned.refuted values
+          (c.requires.right.holds values model));
+    }
 
 pub returns-in_ok-add-in-Unset-clause-on : goal.returns-in_ok-add-in-Unset-clause-on
 returns-in_ok-add-in-Unset-clause-on g c assumed opposites =

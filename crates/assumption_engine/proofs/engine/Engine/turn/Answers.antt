@@ -179,17 +179,20 @@ returns-in-Check-clause-turn g c =
 
 pub returns-in-Learn-clause-places : goal.returns-in-Learn-clause-places
 returns-in-Learn-clause-places g c =
-    kept_places c.learn_from.result c.args.assumed.now c.learn_from.ensures.keeps
+    kept_places c.learn_from.result c.learn_from.new.self.state.trail.steps c.args.assumed.now
+    c.learn_from.ensures.keeps
     c.learn_from.ensures.places c.in_ok-conflict.ensures.places
 
 pub returns-in-Take-clause-places : goal.returns-in-Take-clause-places
 returns-in-Take-clause-places g c =
-    kept_places c.take_given.result c.args.assumed.now c.take_given.ensures.keeps
+    kept_places c.take_given.result c.take_given.new.self.state.trail.steps c.args.assumed.now
+    c.take_given.ensures.keeps
     c.take_given.ensures.places c.in_ok-conflict.ensures.places
 
 pub returns-in-Check-clause-places : goal.returns-in-Check-clause-places
 returns-in-Check-clause-places g c =
-    kept_places c.check_total.result c.args.assumed.now c.check_total.ensures.keeps
+    kept_places c.check_total.result c.check_total.new.self.state.trail.steps c.args.assumed.now
+    c.check_total.ensures.keeps
     c.check_total.ensures.places c.in_ok-conflict.ensures.places
 
 pub returns-in-Decide-clause-places : goal.returns-in-Decide-clause-places
