@@ -1,5 +1,6 @@
-use Rattle.std.proofs.Common.{refl, subst}
+use Rattle.std.proofs.Common.{◌+◌, [], ◌∷◌, ◌++◌, None, ap, refl, subst, sym}
 use Rattle.std.proofs.lemmas.List.Elements.{All-contains}
+use Rattle.clause_store.specs.declared.step.Step.{Step}
 use Rattle.clause_store.specs.Clause.{IsOver}
 use Rattle.search_heuristics.specs.Places.{AreTrueBefore}
 use Rattle.clause_store.specs.Trail.{present_level}
