@@ -23,7 +23,7 @@ use Rattle.conflict_learning.proofs.ConflictLemmas.{IsPresentConflict, conflict_
 use Rattle.conflict_learning.proofs.UnitLemmas.{back_is_lower, learned_is_a_unit}
 use Rattle.search_heuristics.proofs.PlaceLemmas.{places_after_back, places_with_more}
 use Rattle.assumption_engine.specs.Down.{IsDown}
-use Rattle.assumption_engine.specs.Engine.{HasPropagated, IsAsBelow, IsLearned, Taught}
+use Rattle.assumption_engine.specs.Engine.{HasPropagated, IsLearned, Taught}
 use Rattle.assumption_engine.specs.Engine.{IsLevelOf, WentBack}
 use Rattle.assumption_engine.specs.Progress.{weight}
 use Rattle.search_state.specs.State.{Searched}

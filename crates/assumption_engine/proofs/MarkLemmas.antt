@@ -1,23 +1,22 @@
 -- Marks at variables that stand unnegated in clauses, and the literals that are chosen by them.
-use Rattle.std.proofs.Common.{◌≡◌, ◌≢◌, ◌<◌, ◌⊎◌, ◌+◌, ◌*◌, ◌%◌, ◌/◌, ℕ, suc, Bool, true, false, not, eqb}
-use Rattle.std.proofs.Common.{List, [], ◌∷◌, ◌++◌, length, get_or, replicate, set, take, refl, sym}
+use Rattle.std.proofs.Common.{◌≡◌, ◌≢◌, ◌<◌, ◌+◌, ◌%◌, ℕ, suc, Bool, true, false}
+use Rattle.std.proofs.Common.{List, [], ◌∷◌, ◌++◌, length, get_or, replicate, set, take, sym}
 use Rattle.std.proofs.Common.{ap, ◌∙◌, subst, inl, inr, arith}
-use Rattle.std.specs.Prelude.{All, Any, Contains}
+use Rattle.std.specs.Prelude.{Contains}
 use Rattle.std.proofs.Math.Seq.{take-suc}
 use Rattle.std.proofs.lemmas.Bool.{cases_eq, cases_lt, eqb-false, false≢true}
 use Rattle.std.proofs.lemmas.List.{get_or-replicate, get_or-set_other, get_or_past}
 use Rattle.std.proofs.lemmas.List.{length-replicate}
-use Rattle.std.proofs.lemmas.List.Elements.{All-contains_itself, All-weaker, Contains-append_left}
+use Rattle.std.proofs.lemmas.List.Elements.{Contains-append_left}
 use Rattle.std.proofs.lemmas.List.Elements.{Contains-append_right, Contains-push}
 use Rattle.clause_store.specs.declared.literal.Lit.{Lit}
 use Rattle.clause_store.specs.declared.literal.Value.TheVariants.{Unset}
 use Rattle.clause_store.specs.declared.step.Step.{Step}
-use Rattle.clause_store.specs.Clause.{is_negated, negation, variable}
+use Rattle.clause_store.specs.Clause.{is_negated, variable}
 use Rattle.clause_store.specs.Clause.{IsOver}
 use Rattle.clause_store.specs.Trail.{Assigned, step_of, value_by, value_of}
 use Rattle.clause_store.proofs.LiteralLemmas.{any_from, has_first, lit_of_code}
 use Rattle.clause_store.proofs.StepLemmas.{step_of_unset}
-use Rattle.conflict_learning.specs.Analysis.{StandsIn}
 use Rattle.search_state.specs.State.{Searched}
 use Rattle.assumption_engine.specs.Theory.{Meaning}
 use Rattle.assumption_engine.specs.Task.{IsAssuming, IsChoice, IsTask, MayDecide, MustRefuse}
@@ -25,7 +24,7 @@ use Rattle.assumption_engine.specs.declared.task.Task.{Task}
 use Rattle.assumption_engine.specs.declared.task.Task.TheVariants.{Learn, Take, Refuse, Decide}
 use Rattle.assumption_engine.specs.declared.task.Task.TheVariants.{Check}
 use Rattle.assumption_engine.specs.Sided.{positive}
-use Rattle.assumption_engine.specs.Marks.{AreMarkedIn, IsMarked, MarksOne, MarksOnly}
+use Rattle.assumption_engine.specs.Marks.{AreMarkedIn, MarksOne, MarksOnly}
 use Rattle.assumption_engine.proofs.SidedLemmas.{stands_later}
 
 -- one element more is taken

@@ -91,7 +91,8 @@ impl<T: Theory> Engine<T> {
             conflict,
             &mut self.learned,
         )?;
-        self.steering.note_learned(self.state.trail(), &self.learned);
+        self.steering
+            .note_learned(self.state.trail(), &self.learned);
         self.go_back(self.learned.back);
         Ok(())
     }
