@@ -21,7 +21,9 @@ use Rattle.conflict_learning.specs.Analysis.{IsAsserting, StandsIn, greatest_lev
 use Rattle.conflict_learning.specs.declared.learned.Learned.{Learned}
 use Rattle.conflict_learning.proofs.ConflictLemmas.{IsPresentConflict, conflict_there}
 use Rattle.conflict_learning.proofs.UnitLemmas.{back_is_lower, learned_is_a_unit}
-use Rattle.assumption_engine.specs.Engine.{HasPropagated, IsAsBelow, IsLearned, Taught}
+use Rattle.search_heuristics.proofs.PlaceLemmas.{places_after_back, places_with_more}
+use Rattle.assumption_engine.specs.Down.{IsDown}
+use Rattle.assumption_engine.specs.Engine.{HasPropagated, IsLearned, Taught}
 use Rattle.assumption_engine.specs.Engine.{IsLevelOf, WentBack}
 use Rattle.assumption_engine.specs.Progress.{weight}
 use Rattle.search_state.specs.State.{Searched}
@@ -166,17 +168,6 @@ new_work clauses trail clause lit is fixpoint learned unset =
 
 -- ---- several conflicts
 
--- a search went back over conflicts
-pub record IsDown (old new : Searched) : Type 0 where
-  pub clauses : new.clauses ≡ old.clauses
-  pub vars : new.trail.vars ≡ old.trail.vars
-  pub was_trail : IsTrail old.trail
-  pub is_trail : IsTrail new.trail
-  pub below : IsAsBelow old.trail.steps new.trail.steps
-  pub order :
-      (assumed : List Lit) → AreInOrder old.clauses assumed old.trail.steps
-      → AreInOrder new.clauses assumed new.trail.steps
-
 pub down_start : (state : Searched) → IsTrail state.trail → IsDown state state
 down_start state is =
     record {
@@ -186,6 +177,30 @@ down_start state is =
       is_trail = is;
       below = record { level = omega arith; same = λ level below. refl };
       order = λ assumed order. order;
+      keeps = λ assumed places are. are;
+    }
+
+-- going back to level 0 is one
+pub down_to_start : (old new : Searched) → WentBack 0 old new → IsDown old new
+down_to_start old new back =
+    record {
+      clauses = back.clauses;
+      vars = ap (λ t. t.vars) back.trail;
+      was_trail = back.was_trail;
+      is_trail = back.is_trail;
+      below =
+          record {
+            level = omega (arith, back.present);
+            same = λ level below. absurd (omega (arith, below, back.present));
+          };
+      order =
+          λ assumed order. subst (λ clauses. AreInOrder clauses assumed new.trail.steps)
+          (sym back.clauses)
+          (subst (λ t. AreInOrder old.clauses assumed t.steps) (sym back.trail)
+          (order_after_back old.clauses assumed old.trail 0 back.was_trail order));
+      keeps =
+          λ assumed places are. places_after_back assumed old.trail.steps new.trail.steps 0 places
+          (ap (λ t. t.steps) back.trail) are;
     }
 
 -- below its level a trail is not changed by what comes last
@@ -225,6 +240,11 @@ down_further old now back new learned down is by =
           (subst (λ t. AreInOrder now.clauses assumed t.steps) (sym is.back.trail)
           (order_after_back now.clauses assumed now.trail learned.back down.is_trail
           (down.order assumed order))));
+      keeps =
+          λ assumed places are. places_with_more assumed back.trail.steps new.trail.steps
+          by.extends.added places by.extends.steps by.extends.present
+          (places_after_back assumed now.trail.steps back.trail.steps learned.back places
+          (ap (λ t. t.steps) is.back.trail) (down.keeps assumed places are));
     }
   where
     level : present_level new.trail.steps ≡ present_level back.trail.steps

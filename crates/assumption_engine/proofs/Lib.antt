@@ -1,4 +1,5 @@
 pub mod SidedLemmas
+pub mod MarkLemmas
 pub mod SameLemmas
 pub mod ProgressLemmas
 pub mod GoingLemmas

@@ -12,6 +12,8 @@ use Rattle.clause_store.specs.Trail.{IsTrail, value_of}
 use Rattle.propagator.specs.Fixpoint.{IsFixpoint}
 use Rattle.search_state.specs.State.{Searched}
 use Rattle.assumption_engine.specs.Theory.{Meaning, MeansTheSame}
+use Rattle.search_heuristics.specs.Places.{AreTrueBefore}
+use Rattle.assumption_engine.specs.Down.{IsDown, KeepsPlaces}
 use Rattle.assumption_engine.specs.Engine.{GoesOn, HasCounted, HasPropagated, IsLearned, IsRight}
 use Rattle.assumption_engine.specs.Engine.{WentBack}
 use Rattle.assumption_engine.specs.Sided.{AreInOrder, AreOpposed}
@@ -23,7 +25,7 @@ use Rattle.assumption_engine.specs.declared.answer.Turn.TheVariants.{Going}
 use Rattle.assumption_engine.proofs.AnswerLemmas.{room_below}
 use Rattle.assumption_engine.proofs.SameLemmas.{pushed, right_moved, right_pushed}
 use Rattle.assumption_engine.proofs.TurnLemmas.{turn_given, turn_then}
-use Rattle.assumption_engine.proofs.DownLemmas.{IsDown, new_work}
+use Rattle.assumption_engine.proofs.DownLemmas.{new_work}
 use Rattle.assumption_engine.proofs.GoingLemmas.{counted_one, counted_then, goes_on_still}
 use Rattle.assumption_engine.proofs.GoingLemmas.{goes_on_then}
 use Rattle.assumption_engine.proofs.ProgressLemmas.{weight_longer, weight_no_less}
@@ -248,6 +250,14 @@ turned_given {E} {one} {two} {stop} {counted} three followed defined there assum
           (room_below stop counted room) is;
     }
 turned_given three followed defined there assumed old new (Err e) same room right on is = is
+
+-- places that are kept stay right
+pub kept_places : {X E : Type 0} {old : List Step} {was places : List ℕ} (result : Result X E)
+    (new : List Step) (assumed : List Lit) → OnOk result (KeepsPlaces old new) → places ≡ was
+    → AreTrueBefore assumed old was → OnOk result (AreTrueBefore assumed new places)
+kept_places {X} {E} {old} {was} {places} (Ok x) new assumed keeps same are =
+    subst (AreTrueBefore assumed new) (sym same) (keeps assumed was are)
+kept_places (Err e) new assumed keeps same are = keeps
 
 -- what is true at success
 pub on_ok_of : {X E : Type 0} {P : X → Type 0} {Q : Type 0} (result : Result X E) → IfOk result P

@@ -18,6 +18,7 @@ use Rattle.propagator.proofs.ClosureLemmas.{fixpoint_absorbs_no_unit}
 use Rattle.propagator.proofs.FalseLemmas.{fixpoint_absorbs_no_false}
 use Rattle.conflict_learning.specs.declared.learned.Learned.{Learned}
 use Rattle.assumption_engine.specs.Theory.{IsFalseOrForces, IsGiven, Meaning, MeansTheSame}
+use Rattle.assumption_engine.specs.Down.{IsDown}
 use Rattle.assumption_engine.specs.Engine.{GoesOn, HasPropagated, Taught}
 use Rattle.assumption_engine.specs.Answer.{HasEnded, HasGiven, HasTaken, IsAnswer, IsBelow}
 use Rattle.assumption_engine.specs.Answer.{IsCountedRight, IsStop}
@@ -32,7 +33,7 @@ use Rattle.assumption_engine.specs.declared.answer.Turn.TheVariants.{Going, Ende
 use Rattle.search_state.specs.State.{Searched}
 use Rattle.assumption_engine.proofs.ProgressLemmas.{weight_within}
 use Rattle.assumption_engine.proofs.SameLemmas.{model_back, model_same}
-use Rattle.assumption_engine.proofs.DownLemmas.{IsDown, weighs_more}
+use Rattle.assumption_engine.proofs.DownLemmas.{weighs_more}
 
 -- an answer that came for having counted
 ended_stopped : (meaning : Meaning) (defined : List (List Lit)) (assumed : List Lit) (stop : ℕ)
@@ -51,11 +52,10 @@ ended_stopped meaning defined assumed stop new after NoMemory is = absurd is
 pub turn_taken : (meaning : Meaning) (defined : List (List Lit)) (assumed : List Lit) (stop : ℕ)
     (old now back set new : Searched) (learned : Learned) (after : Counted) (turn : Turn)
     → IsDown old now → Taught now back learned → HasPropagated back set
-    → new.trail ≡ set.trail
     → HasTaken stop set new learned.asserting after turn
     → IsTurn meaning defined assumed stop old new after turn
 turn_taken meaning defined assumed stop old now back set new learned after Going down is by
-    trail taken =
+    taken =
     record {
       below = taken.below;
       nearer =
@@ -67,15 +67,17 @@ turn_taken meaning defined assumed stop old now back set new learned after Going
             | inr assigned ↦
                 inr (record {
                   same =
-                      ap length (assigned.same ∙ by.clauses ∙ is.back.clauses ∙ down.clauses);
+                      ap length
+                      (ap (λ s. s.clauses) assigned.same ∙ by.clauses ∙ is.back.clauses
+                      ∙ down.clauses);
                   more =
-                      subst (λ t. weight old.trail < weight t) (sym trail)
+                      subst (λ s. weight old.trail < weight s.trail) (sym assigned.same)
                       (weighs_more old now back set learned down is by.extends assigned.set);
                 })
           ];
     }
 turn_taken meaning defined assumed stop old now back set new learned after (Ended answer) down is
-    by trail taken =
+    by taken =
     ended_stopped meaning defined assumed stop new after answer taken
 
 -- ---- clauses that are given

@@ -126,10 +126,10 @@ abbrev pub IsStopping : ℕ → Counted → Turn → Type 0
 IsStopping stop after Going = length after.units < stop
 IsStopping stop after (Ended answer) = IsStopped stop after answer
 
--- a literal is assigned, and no clause came
+-- a literal is assigned, and nothing was done
 pub record IsSet (old new : Searched) (lit : Lit) : Type 0 where
   pub set : value_of old.trail.steps lit ≢ Unset
-  pub same : new.clauses ≡ old.clauses
+  pub same : new ≡ old
 
 -- a clause came, or its asserting literal is assigned
 pub record IsTaken (stop : ℕ) (old new : Searched) (asserting : Lit) (after : Counted) :

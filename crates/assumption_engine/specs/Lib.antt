@@ -2,6 +2,8 @@ pub mod Theory
 pub mod Progress
 pub mod Sided
 pub mod Engine
+pub mod Marks
+pub mod Down
 pub mod Answer
 pub mod Task
 pub mod Selector

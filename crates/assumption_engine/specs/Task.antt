@@ -45,6 +45,22 @@ pub record MayCheck (clauses : List (List Lit)) (assumed : List Lit) (trail : As
   pub all_true : AreTrue trail.steps assumed
   pub total : IsTotal trail
 
+-- an assumed literal is made true if it is unset, and refused if it is false
+abbrev pub IsAssuming : List Step → Lit → Task → Type 0
+IsAssuming steps lit (Learn at) = ⊥
+IsAssuming steps lit Take = ⊥
+IsAssuming steps lit (Refuse other) = (other ≡ lit) × IsFalse steps lit
+IsAssuming steps lit (Decide other) = (other ≡ lit) × (value_of steps lit ≡ Unset)
+IsAssuming steps lit Check = ⊥
+
+-- when each task comes where the clauses and the theory have nothing to say
+abbrev pub IsChoice : List (List Lit) → List Lit → Assigned → Task → Type 0
+IsChoice clauses assumed trail (Learn at) = ⊥
+IsChoice clauses assumed trail Take = ⊥
+IsChoice clauses assumed trail (Refuse lit) = MustRefuse assumed trail.steps lit
+IsChoice clauses assumed trail (Decide lit) = MayDecide clauses assumed trail lit
+IsChoice clauses assumed trail Check = MayCheck clauses assumed trail
+
 -- when each task comes
 abbrev pub IsTask : Meaning → List Lit → Searched → List Lit → Task → Type 0
 IsTask meaning assumed state given (Learn at) = IsConflict state.clauses state.trail.steps at

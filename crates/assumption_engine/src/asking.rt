@@ -1,6 +1,7 @@
 // The search: one turn after another until one ends with an answer.
 ghost use Rattle.std.specs.Prelude.{◌≡◌, ◌≢◌, ◌≤◌, ◌<◌, ◌+◌, All, IfOk, OnOk, false, true, length};
 ghost use Rattle.clause_store.specs.Clause.{IsOver};
+ghost use Rattle.search_heuristics.specs.Places.{AreTrueBefore};
 ghost use Rattle.assumption_engine.specs.Theory.{MeansTheSame};
 ghost use Rattle.assumption_engine.specs.Engine.{GoesOn, HasCounted, IsRight};
 ghost use Rattle.assumption_engine.specs.Sided.{AreTrueAsAssumed};
@@ -49,6 +50,7 @@ impl<T: Theory> Engine<T> {
         if let Err(_) = self.begin() {
             return Answer::NoMemory;
         }
+        self.steering.begin();
         let stop = stop_of(budget, slice);
         match self.run(alloc, assume, budget, stop) {
             Ok(answer) => {
@@ -69,6 +71,8 @@ impl<T: Theory> Engine<T> {
     ) -> Result<Answer, NoMemory>
         requires may { MayTurn (T.meaning self.old.theory) (T.followed self.old.theory)
             self.old.state self.old.defined assumed.now stop budget.old }
+        requires places { AreTrueBefore assumed.now self.old.state.trail.steps
+            self.old.steering.places }
         ensures same { MeansTheSame (T.meaning self.old.theory) (T.meaning self.new.theory) }
         ensures defined { self.new.defined ≡ self.old.defined }
         ensures answer { IfOk result (λ answer. HasTurned (T.meaning self.old.theory)

@@ -1,25 +1,25 @@
 // An engine, and how it is opened.
 ghost use Rattle.std.specs.Prelude.{◌≡◌, ◌≤◌, ◌<◌, ◌^◌, [], Bool, List, false, true, IfOk};
-ghost use Rattle.std.specs.Prelude.{IfNone, IfSome, OnErr, OnOk};
+ghost use Rattle.std.specs.Prelude.{OnErr, OnOk};
 ghost use Rattle.clause_store.specs.Clause.{AreOver, Meets};
 ghost use Rattle.clause_store.specs.Laws.{AreMoreClauses};
-ghost use Rattle.clause_store.specs.Standing.{IsConflict};
 ghost use Rattle.clause_store.specs.Trail.{present_level};
-ghost use Rattle.propagator.specs.Fixpoint.{IsFixpoint};
 ghost use Rattle.assumption_engine.specs.Theory.{MeansTheSame};
-ghost use Rattle.assumption_engine.specs.Engine.{HasPropagated, IsRight, WentBack};
+ghost use Rattle.assumption_engine.specs.Engine.{IsRight, WentBack};
 
+use crate::marked_state::MarkedState;
+use crate::steering::Steering;
 use crate::theory::Theory;
-use clause_store::{Clause, ClauseRef, Store, Trail, Units};
+use clause_store::{Clause, Lit, Store, Trail, Units};
 use conflict_learning::Learned;
 use item_list::NoMemory;
-use search_state::SearchState;
 use std::alloc::Global;
 
 /// A search over a theory, which keeps its clauses and its trail from one question to the next.
 #[derive(Drop)]
 pub struct Engine<T> {
-    pub(crate) state: SearchState,
+    pub(crate) state: MarkedState,
+    pub(crate) steering: Steering,
     pub(crate) theory: T,
     pub(crate) learned: Learned,
     pub(crate) given: Clause,
@@ -45,9 +45,10 @@ impl<T: Theory> Engine<T> {
         ensures defined { IfOk result (λ it. it.defined ≡ []) }
         ensures alive { IfOk result (λ it. it.dead ≡ false) }
     {
-        let state = SearchState::open(alloc, vars, store)?;
+        let state = MarkedState::open(alloc, vars, store)?;
         Ok(Engine {
             state,
+            steering: Steering::open(alloc, vars)?,
             theory,
             learned: Learned::open(),
             given: Clause::open(),
@@ -70,6 +71,14 @@ impl<T: Theory> Engine<T> {
         self.state.store()
     }
 
+    /// Lets the variables of these literals be decided first, as these literals, until conflicts say
+    /// otherwise. A literal that stands in no clause is made false all the same.
+    pub fn prefer(&mut self, lits: &[Lit])
+        ensures { self.new ≡ record self.old { steering = self.new.steering } }
+    {
+        self.steering.prefer(lits);
+    }
+
     /// Goes back to a level, and the theory with it.
     pub(crate) fn go_back(&mut self, level: u32)
         requires right { IsRight (T.meaning self.old.theory) (T.followed self.old.theory)
@@ -80,10 +89,12 @@ impl<T: Theory> Engine<T> {
         ensures same { MeansTheSame (T.meaning self.old.theory) (T.meaning self.new.theory) }
         ensures back { WentBack level self.old.state self.new.state }
         ensures learned { self.new.learned ≡ self.old.learned }
+        ensures places { self.new.steering.places ≡ self.old.steering.places }
         ensures defined { self.new.defined ≡ self.old.defined }
         ensures dead { self.new.dead ≡ self.old.dead }
     {
         self.state.vouch();
+        self.steering.goes_back(self.state.trail(), level);
         self.state.back_to(level);
         self.theory.undo(self.state.trail());
     }
@@ -110,16 +121,4 @@ impl<T: Theory> Engine<T> {
         self.go_back(0);
         Ok(())
     }
-}
-
-/// Assigns what the clauses force. The answer is a clause that is false, if there is one then.
-pub(crate) fn propagate(state: &mut SearchState) -> Option<ClauseRef>
-    requires alive { state.old.dead ≡ false }
-    ensures none { IfNone result (IsFixpoint state.new.clauses state.new.trail.steps) }
-    ensures some { IfSome result (IsConflict state.new.clauses state.new.trail.steps) }
-    ensures propagated { HasPropagated state.old state.new }
-{
-    let conflict = state.propagate();
-    state.vouch();
-    conflict
 }

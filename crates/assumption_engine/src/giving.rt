@@ -7,6 +7,7 @@ ghost use Rattle.clause_store.specs.Trail.{present_level};
 ghost use Rattle.propagator.specs.Fixpoint.{IsFixpoint};
 ghost use Rattle.assumption_engine.specs.Theory.{IsGiven, MeansTheSame};
 ghost use Rattle.assumption_engine.specs.Engine.{GoesOn, IsRight};
+ghost use Rattle.assumption_engine.specs.Down.{KeepsPlaces};
 ghost use Rattle.assumption_engine.specs.Answer.{HasGiven};
 
 use crate::answer::{Answer, Turn};
@@ -32,6 +33,9 @@ impl<T: Theory> Engine<T> {
             (T.meaning self.old.theory) assumed self.old.state self.new.state counted counted) }
         ensures turn { IfOk result (HasGiven (T.meaning self.old.theory) self.old.defined
             self.old.state self.new.state) }
+        ensures keeps { OnOk result
+            (KeepsPlaces self.old.state.trail.steps self.new.state.trail.steps) }
+        ensures places { self.new.steering.places ≡ self.old.steering.places }
         ensures dead { self.new.dead ≡ self.old.dead }
     {
         self.state.vouch();

@@ -7,10 +7,11 @@ ghost use Rattle.assumption_engine.specs.Theory.{MeansTheSame};
 ghost use Rattle.assumption_engine.specs.Engine.{GoesOn, HasCounted, IsLearned, IsRight, Taught};
 ghost use Rattle.assumption_engine.specs.Engine.{IsLevelOf};
 ghost use Rattle.assumption_engine.specs.Sided.{AreInOrder, AreOpposed};
+ghost use Rattle.assumption_engine.specs.Down.{IsDown, KeepsPlaces};
 ghost use Rattle.assumption_engine.specs.Answer.{HasRoom, HasTaken, IsStopping, IsTurn};
 
 use crate::answer::{Answer, Turn};
-use crate::engine::{Engine, propagate};
+use crate::engine::Engine;
 use crate::theory::Theory;
 use clause_store::{Budget, Clause, ClauseRef, Value};
 use conflict_learning::{analyse, greatest_level};
@@ -46,6 +47,9 @@ impl<T: Theory> Engine<T> {
         ensures turn { IfOk result (λ turn. (assumed : List Lit) → IsTurn
             (T.meaning self.old.theory) self.old.defined assumed stop self.old.state
             self.new.state budget.new turn) }
+        ensures keeps { OnOk result
+            (KeepsPlaces self.old.state.trail.steps self.new.state.trail.steps) }
+        ensures places { self.new.steering.places ≡ self.old.steering.places }
         ensures dead { self.new.dead ≡ self.old.dead }
     {
         let mut conflict = conflict;
@@ -56,7 +60,7 @@ impl<T: Theory> Engine<T> {
                 return Ok(Turn::Ended(Answer::Core(Clause::open())));
             }
             self.resolve(alloc, conflict, level)?;
-            match propagate(&mut self.state) {
+            match self.state.propagate() {
                 Some(next) => conflict = next,
                 None => return self.take_learned(alloc, budget, stop),
             }
@@ -76,6 +80,7 @@ impl<T: Theory> Engine<T> {
         ensures same { MeansTheSame (T.meaning self.old.theory) (T.meaning self.new.theory) }
         ensures defined { self.new.defined ≡ self.old.defined }
         ensures taught { OnOk result (Taught self.old.state self.new.state self.new.learned) }
+        ensures places { self.new.steering.places ≡ self.old.steering.places }
         ensures dead { self.new.dead ≡ self.old.dead }
     {
         self.go_back(level);
@@ -86,6 +91,8 @@ impl<T: Theory> Engine<T> {
             conflict,
             &mut self.learned,
         )?;
+        self.steering
+            .note_learned(self.state.trail(), &self.learned);
         self.go_back(self.learned.back);
         Ok(())
     }
@@ -105,9 +112,8 @@ impl<T: Theory> Engine<T> {
         requires room { HasRoom stop budget.old }
         ensures right { OnOk result (IsRight (T.meaning self.new.theory)
             (T.followed self.new.theory) self.new.state self.new.defined) }
-        ensures theory { self.new.theory ≡ self.old.theory }
+        ensures same { MeansTheSame (T.meaning self.old.theory) (T.meaning self.new.theory) }
         ensures defined { self.new.defined ≡ self.old.defined }
-        ensures trail { self.new.state.trail ≡ self.old.state.trail }
         ensures on { OnOk result ((assumed : List Lit)
             → AreOpposed self.old.state.clauses assumed self.old.learned.clause
             → GoesOn (T.meaning self.old.theory)
@@ -118,16 +124,39 @@ impl<T: Theory> Engine<T> {
             self.old.state.clauses budget.old budget.new }
         ensures turn { IfOk result (HasTaken stop self.old.state self.new.state
             self.old.learned.asserting budget.new) }
+        ensures keeps { OnOk result
+            (KeepsPlaces self.old.state.trail.steps self.new.state.trail.steps) }
+        ensures places { self.new.steering.places ≡ self.old.steering.places }
         ensures dead { self.new.dead ≡ self.old.dead }
     {
         match self.state.trail().value(self.learned.asserting) {
             Value::Unset => {
                 budget.count(alloc, self.learned.clause.as_slice())?;
                 self.state.add(alloc, self.learned.clause.as_slice())?;
+                self.restart_if_due();
                 Ok(turn_after(budget, stop))
             }
             _ => Ok(Turn::Going),
         }
+    }
+
+    /// Starts anew from level 0 if it is time.
+    fn restart_if_due(&mut self)
+        requires right { IsRight (T.meaning self.old.theory) (T.followed self.old.theory)
+            self.old.state self.old.defined }
+        ensures right { IsRight (T.meaning self.new.theory) (T.followed self.new.theory)
+            self.new.state self.new.defined }
+        ensures same { MeansTheSame (T.meaning self.old.theory) (T.meaning self.new.theory) }
+        ensures down { IsDown self.old.state self.new.state }
+        ensures defined { self.new.defined ≡ self.old.defined }
+        ensures places { self.new.steering.places ≡ self.old.steering.places }
+        ensures dead { self.new.dead ≡ self.old.dead }
+    {
+        self.state.vouch();
+        if !self.steering.takes_restart() {
+            return;
+        }
+        self.go_back(0);
     }
 }
 

@@ -24,6 +24,9 @@ run-requires g c =
                 c.in_default.ensures.back.of_store c.in_default.ensures.back.present;
             room = c.stop_of-stop.ensures.room;
           };
+      places =
+          c.begin-2.ensures c.args.assume.now c.begin.new.self.state.trail.steps
+          c.in_default.ensures.back.present;
     }
 
 pub returns-in-Ok-clause-on : goal.returns-in-Ok-clause-on

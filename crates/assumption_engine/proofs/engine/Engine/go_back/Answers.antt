@@ -11,5 +11,5 @@ returns-clause-right g c =
     c.args.self.now.defined c.undo.ensures.same c.requires.right
     (ap (λ s. s.dead) c.back_to.ensures.steps ∙ c.requires.right.alive)
     (ap (λ s. s.clauses) c.back_to.ensures.steps) (ap (λ s. s.trail.vars) c.back_to.ensures.steps)
-    (subst (λ t. AreFollowed t.steps (g.T.Theory.followed c.undo.new.self)) c.trail.ensures.trail
+    (subst (λ t. AreFollowed t.steps (g.T.Theory.followed c.undo.new.self)) c.trail-2.ensures.trail
     c.undo.ensures.followed)

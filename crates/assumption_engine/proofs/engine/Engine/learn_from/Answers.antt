@@ -51,7 +51,7 @@ conflicts-smaller g c =
       arith,
       c.in_ok-resolve.ensures.taught.lower,
       c.in_ok-resolve.ensures.taught.back.present,
-      same_level c.resolve.new.self.state.trail c.propagate.new.state.trail
+      same_level c.resolve.new.self.state.trail c.propagate.new.self.trail
           c.propagate.ensures.propagated.extends,
     )
 
@@ -65,18 +65,19 @@ conflicts-preserved g c = record {
       c.conflicts.invariant.same c.in_ok-resolve.ensures.same);
   defined = c.in_ok-resolve.ensures.defined ∙ c.conflicts.invariant.defined;
   dead = c.resolve.ensures.dead ∙ c.conflicts.invariant.dead;
+  places = c.resolve.ensures.places ∙ c.conflicts.invariant.places;
   budget = c.conflicts.invariant.budget;
   conflict = c.in-Some.ensures.some;
   down =
       down_further c.args.self.now.state c.conflicts.self.state c.resolve.new.self.state
-      c.propagate.new.state c.resolve.new.self.learned c.conflicts.invariant.down
+      c.propagate.new.self c.resolve.new.self.learned c.conflicts.invariant.down
       c.in_ok-resolve.ensures.taught c.propagate.ensures.propagated;
   of_store = c.propagate.ensures.propagated.of_store;
 }
 
 pub take_learned-requires-clause-learned : goal.take_learned-requires-clause-learned
 take_learned-requires-clause-learned g c =
-    learned_extended c.resolve.new.self.state c.propagate.new.state
+    learned_extended c.resolve.new.self.state c.propagate.new.self
     c.resolve.new.self.learned.clause c.resolve.new.self.learned.asserting
     c.propagate.ensures.propagated c.in_ok-resolve.ensures.taught.is_learned
 
@@ -84,21 +85,21 @@ pub returns-in-None-clause-on : goal.returns-in-None-clause-on
 returns-in-None-clause-on g c =
     let down =
     down_further c.args.self.now.state c.conflicts.self.state c.resolve.new.self.state
-    c.propagate.new.state c.resolve.new.self.learned c.conflicts.invariant.down
+    c.propagate.new.self c.resolve.new.self.learned c.conflicts.invariant.down
     c.in_ok-resolve.ensures.taught c.propagate.ensures.propagated in
     on_ok_then c.take_learned.result c.take_learned.ensures.on
     (λ on assumed order. goes_on_then (g.T.Theory.meaning c.args.self.now.theory)
     (g.T.Theory.meaning c.resolve.new.self.theory) assumed c.args.self.now.state
-    c.propagate.new.state c.take_learned.new.self.state c.args.budget.now c.conflicts.budget
+    c.propagate.new.self c.take_learned.new.self.state c.args.budget.now c.conflicts.budget
     c.take_learned.new.budget
     (same_then (g.T.Theory.meaning c.args.self.now.theory)
     (g.T.Theory.meaning c.conflicts.self.theory) (g.T.Theory.meaning c.resolve.new.self.theory)
     c.conflicts.invariant.same c.in_ok-resolve.ensures.same)
     (goes_on_down (g.T.Theory.meaning c.args.self.now.theory) assumed c.args.self.now.state
-    c.propagate.new.state c.args.budget.now c.conflicts.budget c.conflicts.invariant.budget
+    c.propagate.new.self c.args.budget.now c.conflicts.budget c.conflicts.invariant.budget
     down)
     (on assumed
-    (opposed_further c.conflicts.self.state c.resolve.new.self.state c.propagate.new.state
+    (opposed_further c.conflicts.self.state c.resolve.new.self.state c.propagate.new.self
     c.resolve.new.self.learned assumed c.in_ok-resolve.ensures.taught
     c.propagate.ensures.propagated (c.conflicts.invariant.down.order assumed order))))
 
@@ -106,7 +107,7 @@ pub returns-in-None-clause-counted : goal.returns-in-None-clause-counted
 returns-in-None-clause-counted g c assumed order =
     let down =
     down_further c.args.self.now.state c.conflicts.self.state c.resolve.new.self.state
-    c.propagate.new.state c.resolve.new.self.learned c.conflicts.invariant.down
+    c.propagate.new.self c.resolve.new.self.learned c.conflicts.invariant.down
     c.in_ok-resolve.ensures.taught c.propagate.ensures.propagated in
     subst
     (λ d. HasCounted (g.T.Theory.meaning c.args.self.now.theory) assumed d
@@ -114,24 +115,24 @@ returns-in-None-clause-counted g c assumed order =
     (c.in_ok-resolve.ensures.defined ∙ c.conflicts.invariant.defined)
     (counted_then (g.T.Theory.meaning c.args.self.now.theory)
     (g.T.Theory.meaning c.resolve.new.self.theory) (g.T.Theory.followed c.resolve.new.self.theory)
-    c.resolve.new.self.defined assumed c.args.self.now.state c.propagate.new.state
+    c.resolve.new.self.defined assumed c.args.self.now.state c.propagate.new.self
     c.args.budget.now c.conflicts.budget c.take_learned.new.budget
     (same_then (g.T.Theory.meaning c.args.self.now.theory)
     (g.T.Theory.meaning c.conflicts.self.theory) (g.T.Theory.meaning c.resolve.new.self.theory)
     c.conflicts.invariant.same c.in_ok-resolve.ensures.same)
     (right_propagated c.in_ok-resolve.ensures.right c.propagate.ensures.propagated)
     (goes_on_down (g.T.Theory.meaning c.args.self.now.theory) assumed c.args.self.now.state
-    c.propagate.new.state c.args.budget.now c.conflicts.budget c.conflicts.invariant.budget
+    c.propagate.new.self c.args.budget.now c.conflicts.budget c.conflicts.invariant.budget
     down)
     (c.take_learned.ensures.counted assumed
-    (opposed_further c.conflicts.self.state c.resolve.new.self.state c.propagate.new.state
+    (opposed_further c.conflicts.self.state c.resolve.new.self.state c.propagate.new.self
     c.resolve.new.self.learned assumed c.in_ok-resolve.ensures.taught
     c.propagate.ensures.propagated (c.conflicts.invariant.down.order assumed order))))
 
 pub returns-in-None-clause-turn : goal.returns-in-None-clause-turn
 returns-in-None-clause-turn g c =
     if_ok_then
-    (HasTaken c.args.stop c.propagate.new.state c.take_learned.new.self.state
+    (HasTaken c.args.stop c.propagate.new.self c.take_learned.new.self.state
     c.resolve.new.self.learned.asserting c.take_learned.new.budget)
     (λ turn. (assumed : _) → IsTurn (g.T.Theory.meaning c.args.self.now.theory)
     c.args.self.now.defined assumed c.args.stop c.args.self.now.state
@@ -139,10 +140,9 @@ returns-in-None-clause-turn g c =
     c.take_learned.result c.take_learned.ensures.turn
     (λ turn taken assumed. turn_taken (g.T.Theory.meaning c.args.self.now.theory)
     c.args.self.now.defined assumed c.args.stop c.args.self.now.state c.conflicts.self.state
-    c.resolve.new.self.state c.propagate.new.state c.take_learned.new.self.state
+    c.resolve.new.self.state c.propagate.new.self c.take_learned.new.self.state
     c.resolve.new.self.learned c.take_learned.new.budget turn c.conflicts.invariant.down
-    c.in_ok-resolve.ensures.taught c.propagate.ensures.propagated c.take_learned.ensures.trail
-    taken)
+    c.in_ok-resolve.ensures.taught c.propagate.ensures.propagated taken)
 
 pub returns-in_err-resolve-clause-counted : goal.returns-in_err-resolve-clause-counted
 returns-in_err-resolve-clause-counted g c assumed order =
@@ -152,3 +152,21 @@ returns-in_err-resolve-clause-counted g c assumed order =
 pub take_learned-requires-clause-right : goal.take_learned-requires-clause-right
 take_learned-requires-clause-right g c =
     right_propagated c.in_ok-resolve.ensures.right c.propagate.ensures.propagated
+
+pub returns-in-None-clause-same : goal.returns-in-None-clause-same
+returns-in-None-clause-same g c =
+    same_then (g.T.Theory.meaning c.args.self.now.theory)
+    (g.T.Theory.meaning c.resolve.new.self.theory)
+    (g.T.Theory.meaning c.take_learned.new.self.theory)
+    (same_then (g.T.Theory.meaning c.args.self.now.theory)
+    (g.T.Theory.meaning c.conflicts.self.theory) (g.T.Theory.meaning c.resolve.new.self.theory)
+    c.conflicts.invariant.same c.in_ok-resolve.ensures.same) c.take_learned.ensures.same
+
+pub returns-in-None-clause-keeps : goal.returns-in-None-clause-keeps
+returns-in-None-clause-keeps g c =
+    let down =
+    down_further c.args.self.now.state c.conflicts.self.state c.resolve.new.self.state
+    c.propagate.new.self c.resolve.new.self.learned c.conflicts.invariant.down
+    c.in_ok-resolve.ensures.taught c.propagate.ensures.propagated in
+    on_ok_then c.take_learned.result c.take_learned.ensures.keeps
+    (λ keeps assumed places are. keeps assumed places (down.keeps assumed places are))

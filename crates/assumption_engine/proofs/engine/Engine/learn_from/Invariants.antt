@@ -2,8 +2,8 @@ use Rattle.std.proofs.Common.{◌≡◌}
 use Rattle.clause_store.specs.Standing.{IsConflict}
 use Rattle.clause_store.specs.Trail.{IsTrailOf, present_level}
 use Rattle.assumption_engine.specs.Theory.{MeansTheSame}
+use Rattle.assumption_engine.specs.Down.{IsDown}
 use Rattle.assumption_engine.specs.Engine.{IsRight}
-use Rattle.assumption_engine.proofs.DownLemmas.{IsDown}
 use Rattle.assumption_engine.proofs.engine.Engine.learn_from.Given as goal
 
 abbrev pub invariant-conflicts : goal.invariant-conflicts
@@ -13,6 +13,7 @@ invariant-conflicts g l = record {
   same : MeansTheSame (g.T.Theory.meaning l.fn.self.theory) (g.T.Theory.meaning l.self.theory);
   defined : l.self.defined ≡ l.fn.self.defined;
   dead : l.self.dead ≡ l.fn.self.dead;
+  places : l.self.steering.places ≡ l.fn.self.steering.places;
   budget : l.budget ≡ l.fn.budget;
   conflict : IsConflict l.self.state.clauses l.self.state.trail.steps l.conflict;
   down : IsDown l.fn.self.state l.self.state;

@@ -18,7 +18,7 @@ returns-clause-right g c =
           (sym c.in_ok-state.ensures) c.requires.needs;
       kept =
           subst (λ defined. AreMoreClauses defined c.in_ok-state.state.clauses)
-          (sym c.open-4.ensures) (All-nil (Contains c.in_ok-state.state.clauses));
+          (sym c.open-5.ensures) (All-nil (Contains c.in_ok-state.state.clauses));
       range =
           let vars = ap (λ s. s.trail.vars) c.in_ok-state.ensures in
           omega (arith, vars, c.requires.range);

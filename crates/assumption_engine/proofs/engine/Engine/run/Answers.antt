@@ -20,6 +20,7 @@ turn-requires g c =
             order = c.turns.invariant.on.order c.requires.may.order;
             room = c.turns.invariant.room;
           };
+      places = c.turns.invariant.places;
     }
 
 pub returns-in_err-turn-clause-counted : goal.returns-in_err-turn-clause-counted
@@ -67,6 +68,7 @@ turns-preserved g c =
             below = going.below;
             within = omega (arith, limit, c.turns.invariant.room.within);
           };
+      places = c.in_ok-turn.ensures.places;
     }
 
 pub returns-in-Ended-clause-counted : goal.returns-in-Ended-clause-counted

@@ -1,4 +1,5 @@
 use Rattle.std.proofs.Common.{◌≡◌, ◌+◌, ◌^◌, length}
+use Rattle.search_heuristics.specs.Places.{AreTrueBefore}
 use Rattle.assumption_engine.specs.Theory.{MeansTheSame}
 use Rattle.assumption_engine.specs.Engine.{GoesOn, IsRight}
 use Rattle.assumption_engine.specs.Answer.{HasRoom}
@@ -16,6 +17,7 @@ invariant-turns g l = record {
   on : GoesOn (g.T.Theory.meaning l.fn.self.theory) l.assumed l.fn.self.state l.self.state
       l.fn.budget l.budget;
   room : HasRoom l.stop l.budget;
+  places : AreTrueBefore l.assumed l.self.state.trail.steps l.self.steering.places;
 }
 
 abbrev pub decreases-turns : goal.decreases-turns

@@ -1,4 +1,6 @@
 use Rattle.std.proofs.Common.{◌≤◌, length, ap, ◌∙◌, arith}
+use Rattle.clause_store.specs.Trail.{up_to}
+use Rattle.search_heuristics.proofs.PlaceLemmas.{places_after_back}
 use Rattle.assumption_engine.proofs.GoingLemmas.{goes_on_given, goes_on_then, right_added}
 use Rattle.assumption_engine.proofs.GoingLemmas.{with_clause}
 use Rattle.assumption_engine.proofs.SameLemmas.{same_itself}
@@ -28,3 +30,10 @@ returns-clause-on g c assumed counted =
     c.requires.given some)
     (c.in_ok-add.ensures.ok ∙ ap (with_clause c.args.self.now.state) c.as_slice.ensures))
     (goes_on_back c.go_back.ensures.back)
+
+pub returns-clause-keeps : goal.returns-clause-keeps
+returns-clause-keeps g c assumed places are =
+    places_after_back assumed c.args.self.now.state.trail.steps
+    c.go_back.new.self.state.trail.steps c.acting_level-level.result places
+    (ap (λ t. t.steps) c.go_back.ensures.back.trail
+    ∙ ap (λ t. up_to c.acting_level-level.result t.steps) c.in_ok-add.ensures.trail) are

@@ -1,12 +1,16 @@
-use Rattle.std.proofs.Common.{refl, subst}
+use Rattle.std.proofs.Common.{◌+◌, [], ◌∷◌, ◌++◌, None, ap, refl, subst, sym}
 use Rattle.std.proofs.lemmas.List.Elements.{All-contains}
+use Rattle.clause_store.specs.declared.step.Step.{Step}
 use Rattle.clause_store.specs.Clause.{IsOver}
+use Rattle.search_heuristics.specs.Places.{AreTrueBefore}
+use Rattle.clause_store.specs.Trail.{present_level}
 use Rattle.assumption_engine.specs.Task.{IsTask, MayDecide, MustRefuse}
 use Rattle.assumption_engine.specs.declared.answer.Answer.TheVariants.{Core}
 use Rattle.assumption_engine.specs.declared.answer.Turn.TheVariants.{Going, Ended}
 use Rattle.assumption_engine.proofs.AnswerLemmas.{core_of, room_below}
 use Rattle.assumption_engine.proofs.GoingLemmas.{counted_none}
 use Rattle.assumption_engine.proofs.SameLemmas.{same_itself, same_then}
+use Rattle.assumption_engine.proofs.StepLemmas.{kept_places}
 use Rattle.assumption_engine.proofs.StepLemmas.{counted_on, goes_on_propagated, may_turn_on}
 use Rattle.assumption_engine.proofs.StepLemmas.{order_propagated, turned_decided, turned_given}
 use Rattle.assumption_engine.proofs.StepLemmas.{if_turned_on, turned_learned, turned_on}
@@ -173,3 +177,35 @@ returns-in-Check-clause-turn g c =
     c.check_total.result c.next_task.ensures.same c.next_task.ensures.defined
     c.next_task.ensures.propagated
     c.check_total.ensures.turn
+
+pub returns-in-Learn-clause-places : goal.returns-in-Learn-clause-places
+returns-in-Learn-clause-places g c =
+    kept_places c.learn_from.result c.learn_from.new.self.state.trail.steps c.args.assumed.now
+    c.learn_from.ensures.keeps
+    c.learn_from.ensures.places c.in_ok-conflict.ensures.places
+
+pub returns-in-Take-clause-places : goal.returns-in-Take-clause-places
+returns-in-Take-clause-places g c =
+    kept_places c.take_given.result c.take_given.new.self.state.trail.steps c.args.assumed.now
+    c.take_given.ensures.keeps
+    c.take_given.ensures.places c.in_ok-conflict.ensures.places
+
+pub returns-in-Check-clause-places : goal.returns-in-Check-clause-places
+returns-in-Check-clause-places g c =
+    kept_places c.check_total.result c.check_total.new.self.state.trail.steps c.args.assumed.now
+    c.check_total.ensures.keeps
+    c.check_total.ensures.places c.in_ok-conflict.ensures.places
+
+pub returns-in-Decide-clause-places : goal.returns-in-Decide-clause-places
+returns-in-Decide-clause-places g c =
+    let steps = c.next_task.new.self.state.trail.steps in
+    let decided : Step =
+    record { lit = c.in-Decide.lit; reason = None; level = present_level steps + 1 } in
+    subst (λ s. AreTrueBefore c.args.assumed.now s.trail.steps c.opens_level.new.self.places)
+    (sym c.decide.ensures)
+    (subst (λ t. AreTrueBefore c.args.assumed.now (t.steps ++ decided ∷ [])
+    c.opens_level.new.self.places) c.trail.ensures.trail
+    (c.opens_level.ensures c.args.assumed.now decided
+    (ap (λ t. present_level t.steps + 1) (sym c.trail.ensures.trail))
+    (subst (λ t. AreTrueBefore c.args.assumed.now t.steps c.next_task.new.self.steering.places)
+    (sym c.trail.ensures.trail) c.in_ok-conflict.ensures.places)))

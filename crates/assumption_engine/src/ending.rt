@@ -1,48 +1,24 @@
-// What comes next where the clauses and the theory have nothing to say.
-ghost use Rattle.std.specs.Prelude.{◌≡◌, ◌≢◌, ◌<◌, ◌^◌, true, All, IfOk};
-ghost use Rattle.clause_store.specs.Clause.{IsOver, is_negated, variable};
+// How a search ends where no budget is used up: the core of a false assumed literal, and what the
+// theory says of a total assignment.
+ghost use Rattle.std.specs.Prelude.{◌≡◌, IfOk, OnOk};
+ghost use Rattle.clause_store.specs.Clause.{IsOver};
 ghost use Rattle.clause_store.specs.Standing.{IsFalse};
-ghost use Rattle.propagator.specs.Fixpoint.{IsFixpoint};
 ghost use Rattle.conflict_learning.specs.AssumptionCore.{CannotMeet, IsCore};
 ghost use Rattle.assumption_engine.specs.Theory.{MeansTheSame};
-ghost use Rattle.assumption_engine.specs.Task.{IsTask, MayCheck};
+ghost use Rattle.assumption_engine.specs.Down.{KeepsPlaces};
+ghost use Rattle.assumption_engine.specs.Task.{MayCheck};
 ghost use Rattle.assumption_engine.specs.Answer.{HasTurned, MayTurn};
 
 use crate::answer::{Answer, Turn};
 use crate::check::Check;
 use crate::engine::Engine;
-use crate::task::Task;
 use crate::theory::Theory;
-use clause_store::{Budget, Clause, Lit, Value};
+use clause_store::{Budget, Clause, Lit};
 use conflict_learning::final_core;
 use item_list::NoMemory;
-use search_state::{first_not_true, least_unset};
 use std::alloc::Global;
 
 impl<T: Theory> Engine<T> {
-    /// To make the next assumed literal true, or else the next variable false, or else to ask the
-    /// theory.
-    pub(crate) fn choose(&self, assumed: &[Lit]) -> Task
-        requires over { All (IsOver self.now.state.trail.vars) assumed.now }
-        requires fixpoint { IsFixpoint self.now.state.clauses self.now.state.trail.steps }
-        ensures { IsTask (T.meaning self.now.theory) assumed.now self.now.state self.now.given
-            result }
-    {
-        let trail = self.state.trail();
-        if let Some(at) = first_not_true(trail, assumed) {
-            let lit = assumed[at];
-            return match trail.value(lit) {
-                Value::Unset => Task::Decide(lit),
-                _ => Task::Refuse(lit),
-            };
-        }
-        let _vars = trail.vars();
-        match least_unset(trail) {
-            Some(lit) => Task::Decide(to_false(lit)),
-            None => Task::Check,
-        }
-    }
-
     /// The core of an assumed literal that is false.
     pub(crate) fn core(&self, alloc: Global, refused: Lit) -> Result<Clause, NoMemory>
         requires over { IsOver self.now.state.trail.vars refused }
@@ -77,6 +53,9 @@ impl<T: Theory> Engine<T> {
         ensures turn { IfOk result (HasTurned (T.meaning self.old.theory)
             (T.meaning self.new.theory) (T.followed self.new.theory) self.old.defined
             self.new.defined assumed.now stop self.old.state self.new.state budget.now budget.now) }
+        ensures keeps { OnOk result
+            (KeepsPlaces self.old.state.trail.steps self.new.state.trail.steps) }
+        ensures places { self.new.steering.places ≡ self.old.steering.places }
         ensures dead { self.new.dead ≡ self.old.dead }
     {
         self.state.vouch();
@@ -90,13 +69,4 @@ impl<T: Theory> Engine<T> {
             Check::NoMemory => Err(NoMemory),
         }
     }
-}
-
-/// The literal that makes the variable of a literal false.
-fn to_false(lit: Lit) -> Lit
-    requires { variable lit < 2 ^ 31 }
-    ensures variable { variable result ≡ variable lit }
-    ensures negated { is_negated result ≡ true }
-{
-    lit.var().negative()
 }

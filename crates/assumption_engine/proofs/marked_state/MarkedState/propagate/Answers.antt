@@ -1,7 +1,7 @@
 use Rattle.std.proofs.Common.{ap, sym, subst}
 use Rattle.std.specs.Prelude.{IfNone}
 use Rattle.propagator.specs.Fixpoint.{IsFixpoint}
-use Rattle.assumption_engine.proofs.engine.propagate.Goals as goal
+use Rattle.assumption_engine.proofs.marked_state.MarkedState.propagate.Goals as goal
 
 pub returns-clause-none : goal.returns-clause-none
 returns-clause-none c =
