@@ -35,8 +35,8 @@ use Rattle.assumption_engine.specs.Sided.{IsAssumedOrFree, IsOneSided, negative,
 -- ---- literals that stand in clauses
 
 -- a literal stands in more clauses
-pub stands_later : (clauses : List (List Lit)) (clause : List Lit) (lit : Lit) → StandsIn clauses lit
-    → StandsIn (clauses ++ clause ∷ []) lit
+pub stands_later : (clauses : List (List Lit)) (clause : List Lit) (lit : Lit)
+    → StandsIn clauses lit → StandsIn (clauses ++ clause ∷ []) lit
 stands_later clauses clause lit stands =
     any_through (λ c. Contains c lit) (λ c. Contains c lit) clauses (clauses ++ clause ∷ [])
     (All-weaker (Contains clauses) (Contains (clauses ++ clause ∷ []))

@@ -71,8 +71,8 @@ impl<T: Theory> Engine<T> {
         self.state.store()
     }
 
-    /// Lets the variables of these literals be decided first, as these literals, until conflicts say
-    /// otherwise. A literal that stands in no clause is made false all the same.
+    /// Lets the variables of these literals be decided first, as these literals, until conflicts
+    /// say otherwise. A literal that stands in no clause is made false all the same.
     pub fn prefer(&mut self, lits: &[Lit])
         ensures { self.new ≡ record self.old { steering = self.new.steering } }
     {
