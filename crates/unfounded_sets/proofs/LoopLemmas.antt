@@ -344,10 +344,10 @@ module _ (normal : Normal) (trail : Assigned) (part before wanted : List Bool) (
       subst (λ to. AreWritten trail.steps wanted to lits)
       (wants.places ∙ length-set before atom true ∙ places) lits_written
 
-  lits_over : All (IsOver trail.vars) lits
+  lits_over : All (IsOver (greatest_body_var normal)) lits
   lits_over k d within =
       let low = up_to_last.over k d within in
-      record { first = low.0; last = omega (arith, low.1, covered.over) }
+      record { first = low.0; last = omega (arith, low.1) }
 
   -- where the negation is unset it is put last
   pub written_unset : value_of trail.steps denial ≡ Unset
@@ -376,10 +376,10 @@ module _ (normal : Normal) (trail : Assigned) (part before wanted : List Bool) (
             (λ k d within same. unset_apart trail.steps (get_or lits k d) denial same
             (up_to_last.falses k d within) unset);
         over =
-            All-push (IsOver trail.vars) lits denial lits_over
+            All-push (IsOver (greatest_body_var normal)) lits denial lits_over
             (record {
               first = omega (arith, var, is_atom.first);
-              last = omega (arith, var, is_atom.last, covered.over);
+              last = omega (arith, var, is_atom.last);
             });
       }
 

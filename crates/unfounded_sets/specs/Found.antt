@@ -6,6 +6,7 @@ use Rattle.clause_store.specs.Clause.{HasNoVariableTwice, IsOver}
 use Rattle.clause_store.specs.Trail.{Assigned}
 use Rattle.clause_store.specs.Standing.{IsFalse, IsFalseOn, ForcesOn}
 use Rattle.normal_program.specs.declared.normal.Normal.{Normal}
+use Rattle.normal_program.specs.Normal.{greatest_body_var}
 use Rattle.normal_program.specs.Clauses.{positive}
 use Rattle.normal_program.specs.Loop.{IsAtomOf, IsLoopClause}
 use Rattle.unfounded_sets.specs.declared.unfounded.Found.{Found}
@@ -28,12 +29,12 @@ pub record IsUnfounded (normal : Normal) (steps : List Step) (atom : ℕ) : Type
 abbrev pub IsFalseButOne : List Step → List Lit → Type 0
 IsFalseButOne steps clause = IsFalseOn steps clause ⊎ ((lit : Lit) × ForcesOn steps clause lit)
 
--- a loop clause that can force something
+-- a loop clause over atoms and bodies that can force something
 pub record IsLoopWritten (normal : Normal) (trail : Assigned) (clause : List Lit) : Type 0 where
   pub is_loop : IsLoopClause normal clause
   pub standing : IsFalseButOne trail.steps clause
   pub once : HasNoVariableTwice clause
-  pub over : All (IsOver trail.vars) clause
+  pub over : All (IsOver (greatest_body_var normal)) clause
 
 -- such a clause, where some atom is unfounded
 pub record IsGiven (normal : Normal) (trail : Assigned) (clause : List Lit) : Type 0 where
