@@ -3,3 +3,8 @@ pub mod QuietLemmas
 pub mod LeastLemmas
 pub mod LocalLemmas
 pub mod GivenLemmas
+pub mod SelectorLemmas
+pub mod SoundLemmas
+pub mod AskLemmas
+pub mod TellLemmas
+pub mod TestLemmas

@@ -1,5 +1,6 @@
 -- The values of a total trail, and the assignment that it stands for.
-use Rattle.std.proofs.Common.{◌≡◌, ◌≢◌, ◌+◌, ◌*◌, Bool, true, false, cond, eqb}
+use Rattle.std.proofs.Common.{◌≡◌, ◌≢◌, ◌≤◌, ◌+◌, ◌*◌, ℕ, Bool, true, false, cond, eqb, [], ◌∷◌}
+use Rattle.std.proofs.Common.{◌++◌, take}
 use Rattle.std.proofs.Common.{length, get_or, Option, Some, None, refl, sym, ap}
 use Rattle.std.proofs.Common.{◌∙◌, arith, ⊎_elim}
 use Rattle.std.specs.Prelude.{IsSome}
@@ -15,7 +16,8 @@ use Rattle.clause_store.specs.declared.step.Step.{Step}
 use Rattle.clause_store.specs.Clause.{variable, makes_true, IsOver}
 use Rattle.clause_store.specs.Trail.{Assigned, IsTrail, IsTotal, is_yes, step_of, value_by, value_of}
 use Rattle.clause_store.specs.Trail.{values_of}
-use Rattle.clause_store.proofs.LiteralLemmas.{coded}
+use Rattle.item_list.proofs.ListLemmas.{take_more_read}
+use Rattle.clause_store.proofs.LiteralLemmas.{coded, lit_of_code}
 use Rattle.clause_store.proofs.StepLemmas.{find_none}
 use Rattle.clause_store.proofs.TrailLemmas.{total_means}
 use Rattle.normal_program.specs.declared.normal.Normal.{Normal}
@@ -79,3 +81,27 @@ total_assignment normal trail is = record {
       (get_or-map-range_with_len (λ var. is_yes (value_of trail.steps (coded (2 * var)))) 0
       (trail.vars + 1) 0 0 false (omega arith) (omega arith) ∙ none_at_0 trail is.is_trail);
 }
+
+-- ---- the set of a total trail, atom by atom
+
+-- the value of a variable is read at its place
+value_at : (trail : Assigned) (var : ℕ) (d : Bool) → var ≤ trail.vars
+    → get_or (values_of trail) var d ≡ is_yes (value_of trail.steps (coded (2 * var)))
+value_at trail var d low =
+    get_or-map-range_with_len (λ it. is_yes (value_of trail.steps (coded (2 * it)))) 0
+    (trail.vars + 1) var var d (omega (arith, low)) (omega arith)
+
+-- one value more
+pub next_value : (trail : Assigned) (var : ℕ) (lit : Lit) (value : Bool) → var ≤ trail.vars
+    → lit.0 ≡ 2 * var → value ≡ is_yes (value_of trail.steps lit)
+    → take var (values_of trail) ++ value ∷ [] ≡ take (var + 1) (values_of trail)
+next_value trail var lit value low code is =
+    sym
+    (take_more_read (values_of trail) var value (omega (arith, low, length-values trail))
+    (is ∙ ap (λ it. is_yes (value_of trail.steps it)) (lit_of_code lit (coded (2 * var)) code)
+    ∙ sym (value_at trail var value low)))
+
+-- place 0 is false
+pub first_value : (trail : Assigned) → IsTrail trail → false ∷ [] ≡ take 1 (values_of trail)
+first_value trail is =
+    next_value trail 0 (coded (2 * 0)) false (omega arith) refl (sym (none_at_0 trail is))

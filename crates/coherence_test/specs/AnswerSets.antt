@@ -1,6 +1,8 @@
 -- The theory of answer sets: what it means for a search.
 use Rattle.std.specs.Prelude.{◌≡◌, ◌≢◌, Bool, List, All, None}
 use Rattle.ground_program.specs.declared.program.Kind.TheVariants.{Disjunctive}
+use Rattle.clause_store.specs.declared.literal.Lit.{Lit}
+use Rattle.clause_store.specs.Clause.{IsOver}
 use Rattle.clause_store.specs.Standing.{Followed}
 use Rattle.normal_program.specs.declared.normal.Normal.{Normal}
 use Rattle.normal_program.specs.Normal.{IsAnswerSetN, extension, greatest_body_var}
@@ -18,14 +20,19 @@ pub record ExtendsAnswerSet (normal : Normal) (values : List Bool) : Type 0 wher
   pub extends :
       front_of normal values ≡ extension normal (set_of normal values) (set_of normal values)
 
--- what the theory of a normal form says: it needs the base clauses, gives local ones, and decides
--- each total assignment
+-- a local clause over atoms and bodies
+pub record IsLocalOver (normal : Normal) (clause : List Lit) : Type 0 where
+  pub local : IsLocal normal clause
+  pub over : All (IsOver (greatest_body_var normal)) clause
+
+-- what the theory of a normal form says: it needs the base clauses, gives local ones over atoms and
+-- bodies, and decides each total assignment
 abbrev pub answer_sets : Normal → Meaning
 answer_sets normal = record {
   models = ExtendsAnswerSet normal;
   greatest = greatest_body_var normal;
   needs = base_clauses normal;
-  may_give = IsLocal normal;
+  may_give = IsLocalOver normal;
   is_spent = λ values set units. ⊥;
 }
 

@@ -1,2 +1,6 @@
 pub mod AnswerSets
 pub mod Laws
+pub mod Asked
+pub mod Selectors
+pub mod Testing
+pub mod Searching

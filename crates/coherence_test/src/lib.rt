@@ -1,8 +1,15 @@
-//! The theory of answer sets for a search: weight bodies, and then founding.
+//! Tests of what the answer sets of a normal form meet, and the theory behind them: weight bodies,
+//! and then founding.
 #![tactic(auto)]
 
+mod asked;
 mod laws;
+mod search;
+mod telling;
+mod tester;
 mod theory;
 
+pub use asked::{Asked, Core, Tested};
 pub use laws::{founded_models_are_answer_sets, local_clauses_hold};
+pub use tester::Tester;
 pub use theory::AnswerSetTheory;

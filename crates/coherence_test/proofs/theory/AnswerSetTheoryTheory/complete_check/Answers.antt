@@ -18,9 +18,10 @@ returns-after-find-clause-answer c =
     elim c.match-find.branch [
       | in-Err-find w ↦ rw w.result-is tt
       | in-Ok-Loop w ↦
+          let range = rw (← c.self.view_is) at c.requires.range in
           rw (w.result-is, ← c.self.view_is)
           (loop_given c.self.inside.normal.now c.args.trail.now c.find.new.out
-          w.in-Ok-Loop.field-0 c.self.invariant.is_normal w.in-Ok-Loop.field-0-is
+          w.in-Ok-Loop.field-0 c.self.invariant.is_normal range w.in-Ok-Loop.field-0-is
           w.in-Ok-Loop.ensures.found)
       | in-Ok-Nothing w ↦
           let range = rw (← c.self.view_is) at c.requires.range in

@@ -13,8 +13,10 @@ pub returns-clause-given : goal.returns-clause-given
 returns-clause-given c =
     elim c.match-branch-4.branch [
       | in-Loop w ↦
+          let range = rw (← c.self.view_is) at c.requires.range in
           rw (w.result-is, ← c.self.view_is)
           (λ that. loop_given c.self.inside.normal.now c.args.trail.now c.find.new.out
-          c.in_ok-find.field-0 c.self.invariant.is_normal w.in-Loop.is c.in_ok-find.ensures.found)
+          c.in_ok-find.field-0 c.self.invariant.is_normal range w.in-Loop.is
+          c.in_ok-find.ensures.found)
       | in-Nothing w ↦ rw w.result-is (λ that. absurd (cc))
     ]

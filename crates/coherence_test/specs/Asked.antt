@@ -1,0 +1,52 @@
+-- What a test asks, and what its answers say.
+use Rattle.std.specs.Prelude.{◌≡◌, ℕ, Bool, List, All, Contains, IfSome, IsSome, IsTrue, length}
+use Rattle.std.specs.Prelude.{⊤}
+use Rattle.clause_store.specs.Clause.{HoldsIn, IsTrueIn}
+use Rattle.clause_store.specs.Counted.{Counted}
+use Rattle.normal_program.specs.declared.normal.Normal.{Normal}
+use Rattle.normal_program.specs.Normal.{IsAnswerSetN, extension}
+use Rattle.assumption_engine.specs.Answer.{IsBelow, IsSliceOver}
+use Rattle.coherence_test.specs.declared.asked.Asked.{Asked}
+use Rattle.coherence_test.specs.declared.asked.Core.{Core}
+use Rattle.coherence_test.specs.declared.asked.Tested.{Tested}
+use Rattle.coherence_test.specs.declared.asked.Tested.TheVariants.{Found, Core as Refuted, Spent}
+use Rattle.coherence_test.specs.declared.asked.Tested.TheVariants.{SpentInside, Paused, NoMemory}
+
+-- an answer set meets what is asked: its extension makes each assumed literal true and, where there
+-- is a disjunction, one literal of it
+pub record Answers (normal : Normal) (asked : Asked) (set : List Bool) : Type 0 where
+  pub answers : IsAnswerSetN normal set
+  pub assumed : All (IsTrueIn (extension normal set set)) asked.assume
+  pub some : IfSome asked.any (HoldsIn (extension normal set set))
+
+-- an answer set meets a core
+pub record MeetsCore (normal : Normal) (asked : Asked) (core : Core) (set : List Bool) : Type 0
+  where
+    pub answers : IsAnswerSetN normal set
+    pub lits : All (IsTrueIn (extension normal set set)) core.lits
+    pub any : IsTrue core.any → IfSome asked.any (HoldsIn (extension normal set set))
+
+-- a core is a part of what was asked that no answer set meets
+pub record IsCoreFor (normal : Normal) (asked : Asked) (core : Core) : Type 0 where
+  pub among : All (Contains asked.assume) core.lits
+  pub asks : IsTrue core.any → IsSome asked.any
+  pub unmet : (set : List Bool) → ¬ MeetsCore normal asked core set
+
+-- what each answer says. No test of an answer set is spent, as none is needed
+abbrev pub IsTested : Normal → Asked → Tested → Type 0
+IsTested normal asked (Found set) = Answers normal asked set
+IsTested normal asked (Refuted core) = IsCoreFor normal asked core
+IsTested normal asked Spent = ⊤
+IsTested normal asked (SpentInside set units) = ⊥
+IsTested normal asked Paused = ⊤
+IsTested normal asked NoMemory = ⊤
+
+-- how many clauses were counted where each answer comes but want of memory, `stop` being as many as
+-- one call may
+abbrev pub IsTestedAt : ℕ → Counted → Tested → Type 0
+IsTestedAt stop after (Found set) = IsBelow stop after
+IsTestedAt stop after (Refuted core) = IsBelow stop after
+IsTestedAt stop after Spent = length after.units ≡ after.limit
+IsTestedAt stop after (SpentInside set units) = ⊥
+IsTestedAt stop after Paused = IsSliceOver stop after
+IsTestedAt stop after NoMemory = ⊥
