@@ -1,6 +1,0 @@
-//! Trials of the test whether a set is minimal, on small programs, against all subsets. It has
-//! tests alone.
-#![tactic(auto)]
-
-#[cfg(test)]
-mod trials;
