@@ -169,12 +169,14 @@ asked_counted normal theory total used disjunctions clauses defined assumed befo
       entailed =
           all_entailed normal theory disjunctions has.units same are_over
           (λ values model.
-          has.hold values (subst (λ all. IsModelOf (answer_sets theory) all values) (sym is) model));
+          has.hold values
+          (subst (λ all. IsModelOf (answer_sets theory) all values) (sym is) model));
       in_use =
           All-weaker (AreAsAssumed (answer_sets theory).may_give clauses assumed)
           (All (IsInUse normal used))
           (λ unit sided.
-          unit_in_use normal theory total used clauses assumed unit same in_use over sided) has.units
+          unit_in_use normal theory total used clauses assumed unit same in_use over sided)
+          has.units
           has.sided;
     }
 

@@ -1,6 +1,7 @@
 -- A founded model is an answer set: a part of it that keeps the reduct has each founded atom.
 use Rattle.std.proofs.Common.{◌≡◌, ◌≢◌, ◌≤◌, ◌⊎◌, ℕ, Bool, true, false, not, cond, List, []}
-use Rattle.std.proofs.Common.{◌∷◌, get_or, length, Some, None, Option, slice_get, refl, sym, ap, ◌∙◌}
+use Rattle.std.proofs.Common.{◌∷◌, get_or, length, Some, None, Option, slice_get, refl, sym, ap}
+use Rattle.std.proofs.Common.{◌∙◌}
 use Rattle.std.proofs.Common.{subst, arith, ⊎_elim, inl, inr, suc}
 use Rattle.std.specs.Prelude.{All, Any, sum_by, if◌then◌else◌, IsSomeAnd}
 use Rattle.std.proofs.lemmas.Bool.{cases_Bool, cases_lt, cases_eq, both_ways}

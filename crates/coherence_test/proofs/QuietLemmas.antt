@@ -1,5 +1,6 @@
 -- On a total trail where no weight body gives a clause, weight bodies mean what they should.
-use Rattle.std.proofs.Common.{◌≡◌, ◌≢◌, ◌≤◌, ◌<◌, ◌+◌, ℕ, Bool, true, false, not, cond, List, get_or}
+use Rattle.std.proofs.Common.{◌≡◌, ◌≢◌, ◌≤◌, ◌<◌, ◌+◌, ℕ, Bool, true, false, not, cond, List}
+use Rattle.std.proofs.Common.{get_or}
 use Rattle.std.proofs.Common.{length, Some, None, slice_get, refl, sym, ap, ◌∙◌, subst, arith}
 use Rattle.std.proofs.Common.{⊎_elim, leb, get_or-take}
 use Rattle.std.specs.Prelude.{All, sum_by, if◌then◌else◌}
@@ -22,7 +23,8 @@ use Rattle.normal_program.specs.Range.{IsInRange}
 use Rattle.normal_program.specs.Models.{set_of, MeansWeightBodies}
 use Rattle.item_list.proofs.ListLemmas.{sum_by-agree}
 use Rattle.normal_program.proofs.RangeLemmas.{IsNormal-in_range}
-use Rattle.normal_program.proofs.lemmas.Base.TruthLemmas.{makes_true-positive, makes_true-literal_of}
+use Rattle.normal_program.proofs.lemmas.Base.TruthLemmas.{makes_true-positive}
+use Rattle.normal_program.proofs.lemmas.Base.TruthLemmas.{makes_true-literal_of}
 use Rattle.normal_program.proofs.lemmas.Base.TruthLemmas.{variable-positive, variable-literal_of}
 use Rattle.weight_propagator.specs.Gives.{value_in, if_true, unless_false, true_sum, open_sum}
 use Rattle.weight_propagator.specs.Gives.{IsQuiet}

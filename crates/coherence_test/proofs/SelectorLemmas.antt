@@ -11,7 +11,8 @@ use Rattle.std.proofs.lemmas.List.Elements.{All-nil, All-cons, All-head, All-tai
 use Rattle.std.proofs.lemmas.List.Elements.{All-contains, All-contains_itself}
 use Rattle.std.proofs.lemmas.List.Elements.{Contains-append_left, Contains-push}
 use Rattle.clause_store.specs.declared.literal.Lit.{Lit}
-use Rattle.clause_store.specs.Clause.{AreOver, HoldsIn, IsOver, IsTrueIn, Meets, is_negated, variable}
+use Rattle.clause_store.specs.Clause.{AreOver, HoldsIn, IsOver, IsTrueIn, Meets, is_negated}
+use Rattle.clause_store.specs.Clause.{variable}
 use Rattle.clause_store.proofs.LiteralLemmas.{any_through}
 use Rattle.normal_program.specs.declared.normal.Normal.{Normal}
 use Rattle.normal_program.specs.Body.{body_holds}

@@ -14,7 +14,8 @@ use Rattle.clause_store.specs.declared.literal.Value.{Value}
 use Rattle.clause_store.specs.declared.literal.Value.TheVariants.{Yes, No, Unset}
 use Rattle.clause_store.specs.declared.step.Step.{Step}
 use Rattle.clause_store.specs.Clause.{variable, makes_true, IsOver}
-use Rattle.clause_store.specs.Trail.{Assigned, IsTrail, IsTotal, is_yes, step_of, value_by, value_of}
+use Rattle.clause_store.specs.Trail.{Assigned, IsTrail, IsTotal, is_yes, step_of, value_by}
+use Rattle.clause_store.specs.Trail.{value_of}
 use Rattle.clause_store.specs.Trail.{values_of}
 use Rattle.item_list.proofs.ListLemmas.{take_more_read}
 use Rattle.clause_store.proofs.LiteralLemmas.{coded, lit_of_code}
@@ -57,7 +58,8 @@ module _ (trail : Assigned) (total : IsTotal trail) where
           (total (variable lit) over.first over.last) lit is)
 
 -- no assignment is of variable 0
-none_at_0 : (trail : Assigned) → IsTrail trail → is_yes (value_of trail.steps (coded (2 * 0))) ≡ false
+none_at_0 : (trail : Assigned) → IsTrail trail
+    → is_yes (value_of trail.steps (coded (2 * 0))) ≡ false
 none_at_0 trail is =
     ap (λ o. is_yes (value_by o (coded (2 * 0))))
     (find_none (λ (step : Step). eqb (variable step.lit) 0) trail.steps

@@ -17,8 +17,8 @@ use Rattle.coherence_test.specs.declared.asked.Asked.{Asked}
 use Rattle.coherence_test.specs.AnswerSets.{answer_sets, HasNoDisjunction, Theorised}
 use Rattle.coherence_test.specs.Selectors.{defined_clauses, IsInUse, MayGive}
 
--- what contracts see of a tester: its normal form, its clauses, the disjunctions of the selectors in
--- use, in the order of these, and whether it is dead for want of memory
+-- what contracts see of a tester: its normal form, its clauses, the disjunctions of the selectors
+-- in use, in the order of these, and whether it is dead for want of memory
 pub record Testing : Type 0 where
   pub normal : Normal
   pub clauses : List (List Lit)

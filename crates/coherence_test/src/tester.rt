@@ -1,5 +1,6 @@
 // Tests of what the answer sets of a normal form meet.
-ghost use Rattle.std.specs.Prelude.{◌≡◌, ◌≢◌, ◌≤◌, ◌<◌, ◌+◌, ◌-◌, ◌++◌, ◌∷◌, [], IfOk, OnErr, OnOk, false, true};
+ghost use Rattle.std.specs.Prelude.{◌≡◌, ◌≢◌, ◌≤◌, ◌<◌, ◌+◌, ◌-◌, ◌++◌, ◌∷◌, [], IfOk, OnErr, OnOk};
+ghost use Rattle.std.specs.Prelude.{false, true};
 ghost use Rattle.std.specs.Prelude.{length};
 ghost use Rattle.normal_program.specs.Clauses.{base_clauses};
 ghost use Rattle.normal_program.specs.Limit.{IsNormal};
@@ -20,8 +21,8 @@ use normal_program::Normal;
 use std::alloc::Global;
 use std::marker::Model;
 
-/// Tests of what the answer sets of a normal form meet. What one test learned serves the next. After
-/// want of memory it answers that alone.
+/// Tests of what the answer sets of a normal form meet. What one test learned serves the next.
+/// After want of memory it answers that alone.
 #[derive(Drop)]
 pub struct Tester<'a> {
     search: Search<'a>,
@@ -40,7 +41,8 @@ impl<'a> Model for Tester<'a> {
       dead = it.dead;
     } };
 
-    ghost invariant = { λ it. IsKept it.search.normal.now it.search.engine it.search.disjunctions it.dead };
+    ghost invariant = { λ it.
+        IsKept it.search.normal.now it.search.engine it.search.disjunctions it.dead };
 }
 
 impl<'a> Tester<'a> {
@@ -109,8 +111,8 @@ impl<'a> Tester<'a> {
     }
 
     /// Looks for an answer set that makes each literal of `asked.assume` true and, where it is
-    /// there, some literal of `asked.any`. At most `slice` clauses are counted. After want of memory
-    /// the tester answers that alone.
+    /// there, some literal of `asked.any`. At most `slice` clauses are counted. After want of
+    /// memory the tester answers that alone.
     pub fn test(&mut self, alloc: Global, asked: &Asked, budget: &mut Budget, slice: u32) -> Tested
         requires may { self.old.dead ≡ false
             → MayAsk self.old.normal self.old.disjunctions asked.now }

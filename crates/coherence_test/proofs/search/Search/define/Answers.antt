@@ -19,7 +19,8 @@ returns-clause-sound c =
     subst (IsSound old.normal.now new) (sym pushed)
     (define_sound old.normal.now old.engine new old.disjunctions any c.requires.sound
     c.requires.over done.same (done.right done.alive) done.alive
-    (subst (λ var. new.defined ≡ old.engine.defined ++ selector_clause var any ∷ []) is done.defined)
+    (subst (λ var. new.defined ≡ old.engine.defined ++ selector_clause var any ∷ []) is
+    done.defined)
     (ap (λ trail. trail.vars) done.back)
     (subst (λ var. new.state.clauses ≡ old.engine.state.clauses ++ selector_clause var any ∷ []) is
     done.ok))

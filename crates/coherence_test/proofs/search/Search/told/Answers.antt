@@ -30,7 +30,8 @@ returns-in_ok-core_of-in-Core-clause-tested c =
     (c.requires.says (λ is. let e = sym c.in-Core.is ∙ is in cc)) c.in-Core.is
     (is.lits ∙ ap (λ n. filter (is_low n) given) low
     ∙ ap (λ lits. filter (is_low (greatest_body_var it.normal.now)) lits) same)
-    (subst (λ lits. (IsTrue core.any → Any (λ lit. greatest_body_var it.normal.now < variable lit) lits)
+    (subst
+    (λ lits. (IsTrue core.any → Any (λ lit. greatest_body_var it.normal.now < variable lit) lits)
     × (Any (λ lit. greatest_body_var it.normal.now < variable lit) lits → IsTrue core.any)) same
     (subst (λ n. (IsTrue core.any → Any (λ lit. n < variable lit) given)
     × (Any (λ lit. n < variable lit) given → IsTrue core.any)) low is.any))
