@@ -2,3 +2,4 @@
 mod plain;
 mod scene;
 mod tests;
+mod within;
