@@ -1,5 +1,6 @@
 // Clauses to be met, and the search for an assignment that meets them.
-ghost use Rattle.std.specs.Prelude.{◌≡◌, ◌≢◌, ◌<◌, ◌≤◌, ◌^◌, ◌↔◌, All, IfOk, IsTrue, OnOk, [], false};
+ghost use Rattle.std.specs.Prelude.{◌≡◌, ◌≢◌, ◌<◌, ◌≤◌, ◌^◌, ◌↔◌, All, IfOk, IsTrue, OnOk};
+ghost use Rattle.std.specs.Prelude.{[], false};
 ghost use Rattle.clause_store.specs.Clause.{IsOver, variable};
 ghost use Rattle.bench_clauses.specs.Problem.{IsClauseOver};
 

@@ -13,6 +13,7 @@ use Rattle.ground_program.specs.declared.program.Kind.TheVariants.{Basic, Constr
 use Rattle.ground_program.specs.declared.program.Kind.TheVariants.{Weight, Disjunctive}
 use Rattle.ground_program.specs.Meaning.{has, IsIn, IsPart, HeadHolds, IsProperSubset}
 use Rattle.ground_program.specs.Meaning.{IsSetOver}
+use Rattle.ground_program.proofs.SetLemmas.{same_sets}
 use Rattle.ground_program.proofs.MeaningLemmas.{IsDecided, HeadHolds-decided}
 use Rattle.clause_store.specs.declared.literal.Value.{Value}
 use Rattle.clause_store.specs.declared.literal.Value.TheVariants.{Yes, No}
@@ -41,16 +42,6 @@ use Rattle.coherence_test.proofs.QuietLemmas.{quiet_means}
 
 -- ---- sets and decisions
 
-same_bits : (a b : Bool) → (a ≡ true → b ≡ true) → (b ≡ true → a ≡ true) → a ≡ b
-same_bits true b forth back = sym (forth refl)
-same_bits false true forth back = back refl
-same_bits false false forth back = refl
-
-same_sets : (a b : List Bool) → length a ≡ length b → IsPart a b → IsPart b a → a ≡ b
-same_sets a b positions forth back =
-    ext_get_or false a b positions
-    (λ atom _. same_bits (has a atom) (has b atom) (forth atom) (back atom))
-
 -- a fact that is decided of each item holds of each or fails at some
 each_or_some : {X : Type 0} (P : X → Type 0) → ((x : X) → IsDecided (P x)) → (xs : List X)
     → All P xs ⊎ Any (λ x. ¬ P x) xs
@@ -65,7 +56,8 @@ each_or_some P test (x ∷ xs) =
     (λ (fails : ¬ P x). inr (0, x, omega arith, refl, fails))
     (test x)
 
-body_decided : (by set : List Bool) (o : Option BodyOf) → IsDecided (IsSomeAnd o (BodyHoldsN by set))
+body_decided : (by set : List Bool) (o : Option BodyOf)
+    → IsDecided (IsSomeAnd o (BodyHoldsN by set))
 body_decided by set None = inr (λ none. none)
 body_decided by set (Some body) =
     ⊎_elim (λ low. inr (λ holds. omega (arith, low, holds))) (λ enough. inl enough)

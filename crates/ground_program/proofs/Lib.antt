@@ -2,3 +2,4 @@ pub mod ModelLemmas
 pub mod ValidityLemmas
 pub mod MeaningLemmas
 pub mod BoundsLemmas
+pub mod SetLemmas

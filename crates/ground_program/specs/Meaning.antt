@@ -2,7 +2,8 @@
 -- and choices after Simons, Niemelä and Soininen. An atom set has a truth value for each position
 -- from 0.
 use Rattle.std.specs.Prelude.{◌≡◌, ◌≢◌, ◌≤◌, ◌+◌, ℕ, Bool, false, not, if◌then◌else◌, List, length}
-use Rattle.std.specs.Prelude.{All, Any, Some, slice_get, slice_index_or, sum_by, IsTrue}
+use Rattle.std.specs.Prelude.{All, Any, Some, slice_get, slice_index_or, sum_by, count_by}
+use Rattle.std.specs.Prelude.{IsTrue}
 use Rattle.ground_program.specs.declared.program.Kind.{Kind}
 use Rattle.ground_program.specs.declared.program.Kind.TheVariants.{Basic, Constraint, Choice}
 use Rattle.ground_program.specs.declared.program.Kind.TheVariants.{Weight, Disjunctive}
@@ -14,6 +15,10 @@ use Rattle.ground_program.specs.declared.program.Program.{Program}
 -- whether the atom is in the set
 abbrev pub has : List Bool → ℕ → Bool
 has set atom = slice_index_or set atom false
+
+-- the number of positions that are still false
+abbrev pub missing : List Bool → ℕ
+missing set = count_by not set
 
 -- the atom is in the set
 abbrev pub IsIn : List Bool → ℕ → Type 0

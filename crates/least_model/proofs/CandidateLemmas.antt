@@ -9,7 +9,7 @@ use Rattle.ground_program.specs.Meaning.{Keeps, KeepsAll, SomeFails, has}
 use Rattle.least_model.specs.Candidate.{IsOnlyCandidate}
 use Rattle.least_model.proofs.RuleLemmas.{IsKnown, all_keep_by, each_or_some, keeps_or_not}
 use Rattle.least_model.proofs.RuleLemmas.{none_fails}
-use Rattle.least_model.proofs.SetLemmas.{same_sets}
+use Rattle.ground_program.proofs.SetLemmas.{same_sets}
 
 -- the set keeps the rules and is part of each set that does
 pub record IsLeast (rules : List Rule) (set : List Bool) : Type 0 where

@@ -3,4 +3,3 @@ pub mod CandidateLemmas
 pub mod HeadLemmas
 pub mod RoundLemmas
 pub mod RuleLemmas
-pub mod SetLemmas

@@ -11,13 +11,14 @@ use Rattle.ground_program.specs.Meaning.{IsPart, IsIn, IsSetOver, Keeps, KeepsAl
 use Rattle.ground_program.specs.Program.{IsProgram}
 use Rattle.least_model.specs.Candidate.{IsOnlyCandidate}
 use Rattle.least_model.specs.Definite.{IsDefinite}
-use Rattle.least_model.specs.Rounds.{Grows, IsEmptySet, Suits, TriesAll, TriesRule, missing}
+use Rattle.ground_program.specs.Meaning.{missing}
+use Rattle.least_model.specs.Rounds.{Grows, IsEmptySet, Suits, TriesAll, TriesRule}
 use Rattle.least_model.proofs.BodyLemmas.{HasPart}
 use Rattle.least_model.proofs.CandidateLemmas.{only_candidate}
 use Rattle.least_model.proofs.HeadLemmas.{heads_have_positions}
 use Rattle.item_list.proofs.ListLemmas.{All-left, All-right}
 use Rattle.least_model.proofs.RuleLemmas.{IsKnown, head_first, heads_from, keeps_from}
-use Rattle.least_model.proofs.SetLemmas.{added_is_part, missing-added}
+use Rattle.ground_program.proofs.SetLemmas.{added_is_part, missing-added}
 
 abbrev pub known_rule : (set : List Bool) (rule : Rule) → Suits set rule → IsKnown rule
 known_rule set rule suits = record { definite = suits.definite; valid = suits.valid }

@@ -1,14 +1,10 @@
 -- What the rounds over the rules do to the set. Only private calls say this.
-use Rattle.std.specs.Prelude.{◌≡◌, ◌<◌, ◌≤◌, ℕ, Bool, not, List, length, All, count_by, slice_get}
+use Rattle.std.specs.Prelude.{◌≡◌, ◌<◌, ◌≤◌, ℕ, Bool, List, length, All, slice_get}
 use Rattle.std.specs.Bool.{OnTrue, OnFalse}
 use Rattle.ground_program.specs.declared.program.Rule.{Rule}
-use Rattle.ground_program.specs.Meaning.{IsIn, IsPart, IsSetOver, Keeps, KeepsAll}
+use Rattle.ground_program.specs.Meaning.{IsIn, IsPart, IsSetOver, Keeps, KeepsAll, missing}
 use Rattle.ground_program.specs.Program.{IsRule}
 use Rattle.least_model.specs.Definite.{IsDefiniteRule}
-
--- the number of positions that are still false
-abbrev pub missing : List Bool → ℕ
-missing set = count_by not set
 
 -- a set over the atoms 1 to `atoms` that has none of them
 pub record IsEmptySet (atoms : ℕ) (set : List Bool) : Type 0 where

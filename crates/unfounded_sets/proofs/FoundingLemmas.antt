@@ -8,7 +8,7 @@ use Rattle.std.proofs.lemmas.Bool.{cases_eq, cases_lt, both_ways}
 use Rattle.std.specs.Bool.{OnFalse}
 use Rattle.std.proofs.lemmas.List.{get_or-set_same, get_or-set_other, get_or_past}
 use Rattle.std.proofs.lemmas.List.Elements.{All-nil, All-push, All-weaker}
-use Rattle.ground_program.specs.Meaning.{IsPart, IsIn, has}
+use Rattle.ground_program.specs.Meaning.{IsPart, IsIn, has, missing}
 use Rattle.clause_store.specs.declared.step.Step.{Step}
 use Rattle.clause_store.specs.Standing.{IsFalse}
 use Rattle.normal_program.specs.declared.normal.Part.{Part}
@@ -19,10 +19,10 @@ use Rattle.normal_program.specs.Clauses.{positive}
 use Rattle.item_list.proofs.ListLemmas.{All-left, All-right, sum_by-le_each}
 use Rattle.unfounded_sets.specs.Founding.{counts_with, founding_weight, IsReached}
 use Rattle.unfounded_sets.specs.Founding.{Founds}
-use Rattle.unfounded_sets.specs.Rounds.{missing, AddsHeads, Tries, IsBelow, IsSettled, IsEmpty}
+use Rattle.unfounded_sets.specs.Rounds.{AddsHeads, Tries, IsBelow, IsSettled, IsEmpty}
 use Rattle.unfounded_sets.specs.Rounds.{IsCovered, IsRuleIn}
 use Rattle.normal_program.specs.Loop.{IsAtomOf}
-use Rattle.unfounded_sets.proofs.ValueLemmas.{added_is_part, missing-added}
+use Rattle.ground_program.proofs.SetLemmas.{added_is_part, missing-added}
 
 -- the first item of a list of one
 pub All-one : {X : Type 0} (P : X → Type 0) (x : X) → P x → All P (x ∷ [])

@@ -19,7 +19,6 @@ use Rattle.clause_store.proofs.TrailLemmas.{find_passes}
 use Rattle.normal_program.specs.Clauses.{positive, negative}
 use Rattle.normal_program.proofs.lemmas.Base.TruthLemmas.{variable-positive, variable-negative}
 use Rattle.unfounded_sets.specs.Founding.{is_no, is_false}
-use Rattle.unfounded_sets.specs.Rounds.{missing}
 
 no-true : (value : Value) → is_no value ≡ true → value ≡ No
 no-true Yes is = absurd (false≢true is)
@@ -47,23 +46,6 @@ not_false_is steps lit not =
 -- an atom is in a set or it isn't
 pub in_or_out : (set : List Bool) (atom : ℕ) → IsIn set atom ⊎ (has set atom ≡ false)
 in_or_out set atom = cases_Bool (has set atom)
-
--- a set with one more atom is part of each set that has the atom and the rest
-pub added_is_part : (before other : List Bool) (head : ℕ) → IsPart before other → IsIn other head
-    → IsPart (set before head true) other
-added_is_part before other head part here atom known =
-    ⊎_elim (λ (same : atom ≡ head). rw same here)
-    (λ (apart : atom ≡ head → ⊥). part atom
-    (sym (get_or-set_other before head atom true false apart) ∙ known))
-    (cases_eq atom head)
-
--- one more atom leaves fewer places false
-pub missing-added : (before : List Bool) (head : ℕ) → head < length before → has before head ≡ false
-    → missing (set before head true) < missing before
-missing-added before head within out =
-    let total = sum_by-set (λ (bit : Bool). cond (not bit) 1 0) before head true false within in
-    let less = rw out at total in
-    omega (arith, less)
 
 -- two false literals of one variable are the same
 other_code : (one two step : ℕ) → one / 2 ≡ two / 2 → step / 2 ≡ one / 2 → step ≢ one → step ≢ two

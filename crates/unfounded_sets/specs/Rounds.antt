@@ -1,8 +1,7 @@
 -- What the rounds over the rules do to the founded atoms. No public clause cites this module.
-use Rattle.std.specs.Prelude.{◌≡◌, ◌≤◌, ◌<◌, ◌+◌, ℕ, Bool, false, not, List, All, length}
-use Rattle.std.specs.Prelude.{count_by}
+use Rattle.std.specs.Prelude.{◌≡◌, ◌≤◌, ◌<◌, ◌+◌, ℕ, Bool, false, List, All, length}
 use Rattle.std.specs.Bool.{OnTrue, OnFalse}
-use Rattle.ground_program.specs.Meaning.{IsIn, IsPart}
+use Rattle.ground_program.specs.Meaning.{IsIn, IsPart, missing}
 use Rattle.clause_store.specs.declared.step.Step.{Step}
 use Rattle.clause_store.specs.declared.literal.Value.{Value}
 use Rattle.clause_store.specs.Trail.{value_of}
@@ -33,10 +32,6 @@ pub record IsRuleIn (normal : Normal) (rule : NormalRule) : Type 0 where
 pub record IsEmpty (places : ℕ) (set : List Bool) : Type 0 where
   pub count : length set ≡ places
   pub none : All (λ bit. bit ≡ false) set
-
--- the number of places that are still false
-abbrev pub missing : List Bool → ℕ
-missing set = count_by not set
 
 -- a try at some heads: those that aren't false were added
 pub record AddsHeads (steps : List Step) (heads : List ℕ) (before after : List Bool) (grew : Bool) :

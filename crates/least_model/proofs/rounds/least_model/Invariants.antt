@@ -1,4 +1,4 @@
-use Rattle.least_model.specs.Rounds.{missing}
+use Rattle.ground_program.specs.Meaning.{missing}
 use Rattle.least_model.proofs.RoundLemmas.{IsBelow}
 use Rattle.least_model.proofs.rounds.least_model.Given as goal
 

@@ -1,4 +1,5 @@
-use Rattle.unfounded_sets.specs.Rounds.{IsBelow, missing}
+use Rattle.ground_program.specs.Meaning.{missing}
+use Rattle.unfounded_sets.specs.Rounds.{IsBelow}
 use Rattle.unfounded_sets.proofs.founding.found_all.Given as goal
 
 abbrev pub invariant-rounds : goal.invariant-rounds

@@ -4,8 +4,7 @@ use Rattle.std.proofs.Common.{sym, ◌∙◌, refl, cond}
 use Rattle.std.proofs.lemmas.Bool.{cases_eq}
 use Rattle.std.proofs.lemmas.List.{ext_get_or, get_or-set_other}
 use Rattle.std.proofs.lemmas.List.Sums.{sum_by-set}
-use Rattle.ground_program.specs.Meaning.{IsPart, IsIn, has}
-use Rattle.least_model.specs.Rounds.{missing}
+use Rattle.ground_program.specs.Meaning.{IsPart, IsIn, has, missing}
 
 -- two truth values that are true together are the same
 same_bits : (a b : Bool) → (a ≡ true → b ≡ true) → (b ≡ true → a ≡ true) → a ≡ b
