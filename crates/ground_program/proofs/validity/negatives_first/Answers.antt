@@ -4,7 +4,8 @@ use Rattle.ground_program.specs.Program.{NegativesFirst}
 use Rattle.ground_program.proofs.ValidityLemmas.{front-negative, order-more, flag-more, some_part}
 use Rattle.ground_program.proofs.validity.negatives_first.Goals as goal
 use Rattle.ground_program.proofs.validity.negatives_first.Goals.{
-  else-part-via-then-part+else-not-all_negated}
+  else-part-via-then-part+else-not-all_negated,
+}
 use Rattle.ground_program.proofs.validity.negatives_first.Goals.{else-part-via-else-part}
 
 pub returns-then-not-all_negated : goal.returns-then-not-all_negated

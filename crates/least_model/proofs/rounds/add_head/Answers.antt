@@ -5,7 +5,8 @@ use Rattle.least_model.proofs.RoundLemmas.{adds_head, stays_with_head, stays_wit
 use Rattle.least_model.proofs.rounds.add_head.Goals as goal
 use Rattle.least_model.proofs.rounds.add_head.Goals.{then-has_atom-via-then-has_atom}
 use Rattle.least_model.proofs.rounds.add_head.Goals.{
-  then-has_atom-via-else-has_atom+then-not-has_body}
+  then-has_atom-via-else-has_atom+then-not-has_body,
+}
 
 pub returns-then-has_atom : goal.returns-then-has_atom
 returns-then-has_atom c =

@@ -6,7 +6,8 @@ use Rattle.clause_store.specs.Entailment.{IsForcedBy}
 use Rattle.plain_units.proofs.UnitLemmas.{all_read, closed_under}
 use Rattle.plain_units.proofs.propagation.forced_in.Goals as goal
 use Rattle.plain_units.proofs.propagation.forced_in.Goals.{
-  else-not-has-via-then-not-has+else-others_are_false}
+  else-not-has-via-then-not-has+else-others_are_false,
+}
 use Rattle.plain_units.proofs.propagation.forced_in.Goals.{else-not-has-via-else-not-has}
 
 pub loop-lit-preserved : goal.loop-lit-preserved

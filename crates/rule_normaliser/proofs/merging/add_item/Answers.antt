@@ -6,7 +6,8 @@ use Rattle.rule_normaliser.specs.Merging.{KeepsMerged}
 use Rattle.rule_normaliser.proofs.MergeLemmas.{KeepsMerged-push, KeepsMerged-add, IsNewLit}
 use Rattle.rule_normaliser.proofs.merging.add_item.Goals as goal
 use Rattle.rule_normaliser.proofs.merging.add_item.Goals.{
-  else-count-gt0-via-then-count-gt0+else-is_of}
+  else-count-gt0-via-then-count-gt0+else-is_of,
+}
 use Rattle.rule_normaliser.proofs.merging.add_item.Goals.{else-count-gt0-via-else-count-gt0}
 
 pub returns-then-is_of : goal.returns-then-is_of

@@ -10,7 +10,8 @@ use Rattle.weight_propagator.proofs.BodyLemmas.{normal_body}
 use Rattle.weight_propagator.proofs.RowsLemmas.{rows_with, rows_without}
 use Rattle.weight_propagator.proofs.build.rows_of.Goals as goal
 use Rattle.weight_propagator.proofs.build.rows_of.Goals.{
-  then-not-is_conjunctive+in_ok-row+in_ok-push}
+  then-not-is_conjunctive+in_ok-row+in_ok-push,
+}
 use Rattle.weight_propagator.proofs.build.rows_of.Goals.{else-not-is_conjunctive}
 
 -- the item that is read stands at its number
