@@ -156,15 +156,8 @@ impl ActivityHeap {
         requires { var < self.old.size }
     {
         if self.places[var as usize] as usize >= self.count && self.count < self.heap.len() {
-            let place = self.count;
             self.count += 1;
-            rise(
-                self.heap.as_mut_slice(),
-                self.places.as_mut_slice(),
-                self.activities.as_slice(),
-                place,
-                var,
-            );
+            self.rise_from(self.count - 1, var);
         }
     }
 
@@ -175,14 +168,23 @@ impl ActivityHeap {
     {
         let place = self.places[var as usize] as usize;
         if place < self.count {
-            rise(
-                self.heap.as_mut_slice(),
-                self.places.as_mut_slice(),
-                self.activities.as_slice(),
-                place,
-                var,
-            );
+            self.rise_from(place, var);
         }
+    }
+
+    /// Puts a variable where a hole at a place leaves it when what is less active sinks.
+    fn rise_from(&mut self, place: usize, var: u32)
+        requires place { place < self.old.count }
+        requires var { var < self.old.size }
+        ensures { self.new.size ≡ self.old.size }
+    {
+        rise(
+            self.heap.as_mut_slice(),
+            self.places.as_mut_slice(),
+            self.activities.as_slice(),
+            place,
+            var,
+        );
     }
 
     /// Scales all activities and the addend down. It comes once in some 250 conflicts.
