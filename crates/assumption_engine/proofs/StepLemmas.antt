@@ -267,8 +267,8 @@ on_ok_of (Ok x) is then = then x is
 on_ok_of (Err e) is then = is
 
 -- a task that was read is the one that was found
-pub task_read : {meaning : Meaning} {assumed given : List Lit} {state : Searched}
-    {found task : Task} → found ≡ task → IsTask meaning assumed state given found
+pub task_read : (meaning : Meaning) (assumed : List Lit) (state : Searched) (given : List Lit)
+    (found task : Task) → found ≡ task → IsTask meaning assumed state given found
     → IsTask meaning assumed state given task
-task_read {meaning} {assumed} {given} {state} is holds =
+task_read meaning assumed state given found task is holds =
     subst (IsTask meaning assumed state given) is holds

@@ -53,25 +53,15 @@ pub one_in : (normal : Normal) (mode : Mode) (cand : ℕ) → IsCandidate normal
     → IsConsequenceN normal mode cand → (bit : ℕ) → HasBit (2 ^ bit_of cand) bit
     → IsTrueIn normal mode (in_place cand) bit
 one_in normal mode cand candidate holds bit has =
-    record {
-      cand = cand;
-      candidate = candidate;
-      word = refl;
-      number = power_bit (bit_of cand) bit has;
-      holds = holds;
-    }
+    let number = power_bit (bit_of cand) bit has in
+    record { cand = cand; candidate = candidate; word = refl; number = number; holds = holds }
 
 pub one_out : (normal : Normal) (mode : Mode) (cand : ℕ) → IsCandidate normal.names cand
     → ¬ IsConsequenceN normal mode cand → (bit : ℕ) → HasBit (2 ^ bit_of cand) bit
     → IsTrueOut normal mode (out_place (length normal.names) cand) bit
 one_out normal mode cand candidate holds bit has =
-    record {
-      cand = cand;
-      candidate = candidate;
-      word = refl;
-      number = power_bit (bit_of cand) bit has;
-      holds = holds;
-    }
+    let number = power_bit (bit_of cand) bit has in
+    record { cand = cand; candidate = candidate; word = refl; number = number; holds = holds }
 
 -- the words of a candidate are words of the board
 word_exists : (names : List Named) (cand : ℕ) → IsCandidate names cand

@@ -83,7 +83,7 @@ returns-in-Take-clause-turn g c =
 pub core-requires-clause-over : goal.core-requires-clause-over
 core-requires-clause-over g c =
     let task : MustRefuse c.args.assumed.now c.next_task.new.self.state.trail.steps
-    c.in-Refuse.lit = task_read c.in-Refuse.is c.in_ok-conflict.ensures.task in
+    c.in-Refuse.lit = task_read _ _ _ _ _ _ c.in-Refuse.is c.in_ok-conflict.ensures.task in
     let may =
     may_turn_on c.next_task.ensures.propagated c.in_ok-conflict.ensures.right c.requires.may in
     All-contains (IsOver c.next_task.new.self.state.trail.vars) c.args.assumed.now c.in-Refuse.lit
@@ -102,7 +102,7 @@ returns-in_ok-core-in-Refuse-clause-counted g c =
 pub returns-in_ok-core-in-Refuse-clause-turn : goal.returns-in_ok-core-in-Refuse-clause-turn
 returns-in_ok-core-in-Refuse-clause-turn g c =
     let task : MustRefuse c.args.assumed.now c.next_task.new.self.state.trail.steps
-    c.in-Refuse.lit = task_read c.in-Refuse.is c.in_ok-conflict.ensures.task in
+    c.in-Refuse.lit = task_read _ _ _ _ _ _ c.in-Refuse.is c.in_ok-conflict.ensures.task in
     turned_on (g.T.Theory.meaning c.next_task.new.self.theory)
     (g.T.Theory.followed c.next_task.new.self.theory)
     c.next_task.new.self.defined c.args.assumed.now c.args.stop c.next_task.new.self.state
@@ -132,7 +132,7 @@ pub returns-in-Decide-clause-turn : goal.returns-in-Decide-clause-turn
 returns-in-Decide-clause-turn g c =
     let task : MayDecide c.next_task.new.self.state.clauses c.args.assumed.now
     c.next_task.new.self.state.trail c.in-Decide.lit =
-    task_read c.in-Decide.is c.in_ok-conflict.ensures.task in
+    task_read _ _ _ _ _ _ c.in-Decide.is c.in_ok-conflict.ensures.task in
     turned_on (g.T.Theory.meaning c.next_task.new.self.theory)
     (g.T.Theory.followed c.next_task.new.self.theory)
     c.next_task.new.self.defined c.args.assumed.now c.args.stop c.decide.new.self
