@@ -6,7 +6,7 @@ set -eu
 cd "$(dirname "$0")/.."
 program=${1:-}
 if [ -z "$program" ]; then
-  ( cd crates/bench_weights && rt run > /dev/null 2>&1 )
+  ( cd crates/bench_weights && rt run < stdin > /dev/null 2>&1 )
   program=crates/bench_weights/out/bench_weights
 fi
 folder=$(mktemp -d)
@@ -14,10 +14,10 @@ trap 'rm -rf "$folder"' EXIT
 python3 bench/make_input.py weights 200 > "$folder/weights"
 python3 bench/make_input.py ladder 100 > "$folder/ladder"
 
-walk() { # INPUT TURNS: the walk's nanoseconds
-  start=$(date +%s%N)
-  "$program" "$2" < "$folder/$1" > "$folder/out"
-  echo $(( $(date +%s%N) - start ))
+walk() { # INPUT TURNS: the program's milliseconds of user time
+  local TIMEFORMAT=%3U spent
+  spent=$( { time "$program" "$2" < "$folder/$1" > "$folder/out"; } 2>&1 )
+  echo $(( 10#${spent/./} ))
 }
 
 while read -r name turns; do
@@ -25,7 +25,7 @@ while read -r name turns; do
   for _ in 1 2 3; do
     spent=$(( $(walk "$name" "$turns") - opened ))
     assigned=$(cut -d ' ' -f 6 "$folder/out")
-    echo "$name: $(cat "$folder/out"), $(( spent / assigned )) ns each"
+    echo "$name: $(cat "$folder/out"), $(( spent * 1000000 / assigned )) ns each"
   done
 done <<'WALKS'
 weights 300000
