@@ -8,3 +8,4 @@ pub mod SoundLemmas
 pub mod AskLemmas
 pub mod TellLemmas
 pub mod TestLemmas
+pub mod ShareLemmas

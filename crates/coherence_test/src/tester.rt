@@ -1,20 +1,23 @@
 // Tests of what the answer sets of a normal form meet.
 ghost use Rattle.std.specs.Prelude.{◌≡◌, ◌≢◌, ◌≤◌, ◌<◌, ◌+◌, ◌-◌, ◌++◌, ◌∷◌, [], IfOk, OnErr, OnOk};
-ghost use Rattle.std.specs.Prelude.{false, true};
+ghost use Rattle.std.specs.Prelude.{false, true, option_to_list, IfNone, IfSome};
 ghost use Rattle.std.specs.Prelude.{length};
 ghost use Rattle.normal_program.specs.Clauses.{base_clauses};
 ghost use Rattle.normal_program.specs.Limit.{IsNormal};
+ghost use Rattle.short_clauses.specs.Shareable.{IsShareable};
 ghost use Rattle.coherence_test.specs.AnswerSets.{HasNoDisjunction};
 ghost use Rattle.coherence_test.specs.Asked.{IsTested, IsTestedAt};
 ghost use Rattle.coherence_test.specs.Selectors.{AreUsed, IsImport};
+ghost use Rattle.coherence_test.specs.Sharing.{HasNoted};
 ghost use Rattle.coherence_test.specs.Testing.{HasAdded, HasCountedUnits, IsPast, MayAsk};
 ghost use Rattle.coherence_test.specs.Testing.{selectors, used_by};
 
 use crate::asked::{Asked, Tested};
 use crate::search::Search;
+use crate::sharing::note;
 use crate::theory::AnswerSetTheory;
 use assumption_engine::Engine;
-use clause_store::{Budget, Lit, Store, Units};
+use clause_store::{Budget, Lit, Short, Store, Units};
 use completion::complete;
 use item_list::NoMemory;
 use normal_program::Normal;
@@ -26,11 +29,13 @@ use std::marker::Model;
 #[derive(Drop)]
 pub struct Tester<'a> {
     search: Search<'a>,
+    left: Vec<Short>,
     dead: bool,
 }
 
 impl<'a> Model for Tester<'a> {
     ghost use Rattle.coherence_test.specs.Testing.{Testing, IsKept};
+    ghost use Rattle.coherence_test.specs.Sharing.{AreShareable};
 
     ghost Value = { Testing };
 
@@ -38,11 +43,13 @@ impl<'a> Model for Tester<'a> {
       normal = it.search.normal.now;
       clauses = it.search.engine.state.clauses;
       disjunctions = it.search.disjunctions;
+      left = it.left.items;
       dead = it.dead;
     } };
 
     ghost invariant = { λ it.
-        IsKept it.search.normal.now it.search.engine it.search.disjunctions it.dead };
+        IsKept it.search.normal.now it.search.engine it.search.disjunctions it.dead
+        × AreShareable it.search.normal.now it.left.items };
 }
 
 impl<'a> Tester<'a> {
@@ -54,6 +61,7 @@ impl<'a> Tester<'a> {
           normal = normal.now;
           clauses = base_clauses normal.now;
           disjunctions = [];
+          left = [];
           dead = false;
         }) }
     {
@@ -68,6 +76,7 @@ impl<'a> Tester<'a> {
                 engine,
                 disjunctions: Units::open(),
             },
+            left: Vec::new(alloc),
             dead: false,
         })
     }
@@ -100,6 +109,7 @@ impl<'a> Tester<'a> {
         ensures err { OnErr result (self.new.dead ≡ true) }
         ensures normal { self.new.normal ≡ self.old.normal }
         ensures disjunctions { self.new.disjunctions ≡ self.old.disjunctions }
+        ensures left { self.new.left ≡ self.old.left }
     {
         if self.dead {
             return Err(NoMemory);
@@ -130,6 +140,10 @@ impl<'a> Tester<'a> {
         ensures counted { HasCountedUnits self.old.normal self.new.disjunctions self.old.clauses
             (used_by asked.now.any self.new.disjunctions) budget.old budget.new }
 
+        // What of it is to be handed on.
+        ensures noted { result ≢ Tested.NoMemory
+            → HasNoted self.old.normal budget.old budget.new self.old.left self.new.left }
+
         ensures used { result ≢ Tested.NoMemory
             → AreUsed self.old.disjunctions asked.now.any self.new.disjunctions }
         ensures alive { result ≢ Tested.NoMemory → self.new.dead ≡ false }
@@ -141,12 +155,28 @@ impl<'a> Tester<'a> {
             return Tested::NoMemory;
         }
         self.dead = true;
+        let before = budget.used() as usize;
         match self.search.test(alloc, asked, budget, slice) {
             Ok(tested) => {
+                let counted = &budget.units().as_slice()[before..];
+                if let Err(_) = note(self.search.normal, counted, &mut self.left) {
+                    return Tested::NoMemory;
+                }
                 self.dead = false;
                 tested
             }
             Err(_) => Tested::NoMemory,
         }
+    }
+
+    /// Gives a clause of one to three literals without a selector that was counted by a test and
+    /// wasn't given before. There is none only where none is left. It takes no memory.
+    pub fn take_shareable(&mut self) -> Option<Short>
+        ensures taken { self.old.left ≡ self.new.left ++ option_to_list result }
+        ensures none { IfNone result (self.old.left ≡ []) }
+        ensures shareable { IfSome result (IsShareable self.old.normal) }
+        ensures same { self.new ≡ record self.old { left = self.new.left } }
+    {
+        self.left.pop()
     }
 }
