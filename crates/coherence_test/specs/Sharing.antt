@@ -3,7 +3,7 @@ use Rattle.std.specs.Prelude.{◌≡◌, ◌≤◌, ◌&&◌, ℕ, nat_le, Bool,
 use Rattle.std.specs.List.{AllZip, list_all}
 use Rattle.clause_store.specs.declared.literal.Lit.{Lit}
 use Rattle.clause_store.specs.declared.theory_says.Short.{Short}
-use Rattle.clause_store.specs.Clause.{IsClause, IsOver}
+use Rattle.clause_store.specs.Clause.{IsClause, IsOver, variable}
 use Rattle.clause_store.specs.Counted.{Counted}
 use Rattle.normal_program.specs.declared.normal.Normal.{Normal}
 use Rattle.normal_program.specs.Normal.{greatest_body_var}
@@ -16,6 +16,12 @@ use Rattle.coherence_test.specs.Searching.{is_low}
 abbrev pub is_told : ℕ → List Lit → Bool
 is_told greatest clause =
     nat_le 1 (length clause) && nat_le (length clause) 3 && list_all (is_low greatest) clause
+
+-- what that means
+pub record IsTold (greatest : ℕ) (clause : List Lit) : Type 0 where
+  pub some : 1 ≤ length clause
+  pub few : length clause ≤ 3
+  pub low : All (λ lit. variable lit ≤ greatest) clause
 
 -- the short clauses of those that are to be told, in order, came last
 pub record AreNoted (normal : Normal) (units : List (List Lit)) (old new : List Short) : Type 0

@@ -1,8 +1,9 @@
 // The clauses that a tester hands on.
-ghost use Rattle.std.specs.Prelude.{◌≡◌, ◌∷◌, [], All, OnOk};
+ghost use Rattle.std.specs.Prelude.{◌≤◌, ◌↔◌, ◌∷◌, [], All, IsTrue, OnOk};
+ghost use Rattle.clause_store.specs.Clause.{variable};
 ghost use Rattle.normal_program.specs.Limit.{IsNormal};
 ghost use Rattle.normal_program.specs.Normal.{greatest_body_var};
-ghost use Rattle.coherence_test.specs.Sharing.{AreNoted, AreShareable, IsTellable, is_told};
+ghost use Rattle.coherence_test.specs.Sharing.{AreNoted, AreShareable, IsTellable, IsTold};
 
 use clause_store::{Clause, Lit, Short};
 use item_list::NoMemory;
@@ -10,11 +11,7 @@ use normal_program::Normal;
 use short_clauses::short_of;
 
 /// Notes those of the clauses that have one to three literals and no selector.
-pub(crate) fn note(
-    normal: &Normal,
-    units: &[Clause],
-    left: &mut Vec<Short>,
-) -> Result<(), NoMemory>
+pub(crate) fn note(normal: &Normal, units: &[Clause], left: &mut Vec<Short>) -> Result<(), NoMemory>
     requires normal { IsNormal normal.now }
     requires units { All (IsTellable normal.now) units.now }
     requires left { AreShareable normal.now left.old.items }
@@ -44,7 +41,15 @@ fn note_one(normal: &Normal, unit: &[Lit], left: &mut Vec<Short>) -> Result<(), 
 
 /// Whether a clause has one to three literals, and no variable above the greatest of a body.
 fn may_tell(unit: &[Lit], greatest: u32) -> bool
-    ensures { result ≡ is_told greatest unit.now }
+    ensures { IsTrue result ↔ IsTold greatest unit.now }
 {
-    (1..=3).contains(&unit.len()) && unit.iter().all(|lit| lit.var().0 <= greatest)
+    let is_short = 1 <= unit.len() && unit.len() <= 3;
+    is_short && is_low(unit, greatest)
+}
+
+/// Whether no variable is above the greatest of a body.
+fn is_low(unit: &[Lit], greatest: u32) -> bool
+    ensures { IsTrue result ↔ All (λ lit. variable lit ≤ greatest) unit.now }
+{
+    unit.iter().all(|lit| lit.var().0 <= greatest)
 }

@@ -1,5 +1,5 @@
 -- Three codes in order that have the codes of a clause are a short clause of it.
-use Rattle.std.proofs.Common.{◌≡◌, ◌≢◌, ◌≤◌, ◌+◌, ◌-◌, ◌/◌, ◌%◌, ◌⊎◌, ℕ, Bool, List, [], ◌∷◌, ◌++◌, map, get_or}
+use Rattle.std.proofs.Common.{◌≡◌, ◌≢◌, ◌≤◌, ℕ, Bool, List, [], ◌∷◌, ◌++◌, map, get_or}
 use Rattle.std.proofs.Common.{filter, length, nat_eq, not, true, false, refl, sym, ap, ◌∙◌, subst}
 use Rattle.std.proofs.Common.{inl, inr, arith}
 use Rattle.std.specs.Prelude.{All, Contains}
@@ -22,8 +22,8 @@ abbrev is_some : ℕ → Bool
 is_some code = not (nat_eq code 0)
 
 module _ (clause : List Lit) (zeros : List ℕ) (short : Short) (is : IsClause clause)
-  (are_zero : All (λ code. code ≡ 0) zeros)
-  (same : HasSame (map code_of clause ++ zeros) short.lits) where
+    (are_zero : All (λ code. code ≡ 0) zeros)
+    (same : HasSame (map code_of clause ++ zeros) short.lits) where
   has_literal : (lit : Lit) → Contains clause lit → Contains (literals_of_short short) lit
   has_literal lit here =
       let positive : 1 ≤ variable lit =

@@ -1,7 +1,7 @@
 -- A short clause of a clause that holds in every answer set may be told.
-use Rattle.std.proofs.Common.{◌≡◌, ◌≢◌, ◌<◌, ◌≤◌, ◌+◌, ◌⊎◌, ℕ, Bool, true, List, [], ◌++◌, map, filter, length}
-use Rattle.std.proofs.Common.{get_or, not, nat_eq, refl, sym, ap, ◌∙◌, subst, inl, inr, arith}
-use Rattle.std.specs.Prelude.{All, AllPairs, Contains}
+use Rattle.std.proofs.Common.{◌≡◌, ◌≢◌, ◌<◌, ◌≤◌, ◌⊎◌, ℕ, Bool, true, List, [], ◌++◌, filter, length}
+use Rattle.std.proofs.Common.{get_or, not, nat_eq, sym, ap, ◌∙◌, inl, inr, arith}
+use Rattle.std.specs.Prelude.{All, Contains}
 use Rattle.std.proofs.lemmas.Bool.{cases_order, false≢true}
 use Rattle.std.proofs.lemmas.List.{get_or-map, get_or_default, length-map}
 use Rattle.std.proofs.lemmas.List.Elements.{All-contains, All-get_or, Contains-get_or}
@@ -11,11 +11,11 @@ use Rattle.std.proofs.lemmas.List.Kept.{AllPairs-filter}
 use Rattle.clause_store.specs.declared.literal.Lit.{Lit}
 use Rattle.clause_store.specs.declared.theory_says.Short.{Short}
 use Rattle.clause_store.specs.Clause.{HasNoVariableTwice, IsOver, IsTrueIn, variable}
-use Rattle.clause_store.proofs.LiteralLemmas.{all_through, any_through, coded, has_first}
+use Rattle.clause_store.proofs.LiteralLemmas.{all_through, any_through, coded}
 use Rattle.normal_program.specs.declared.normal.Normal.{Normal}
 use Rattle.normal_program.specs.Normal.{extension, greatest_body_var}
 use Rattle.normal_program.specs.Clauses.{IsEntailed}
-use Rattle.short_clauses.specs.Short.{AreAscending, IsShortOf, literals_of_short}
+use Rattle.short_clauses.specs.Short.{IsShortOf, literals_of_short}
 use Rattle.short_clauses.specs.Shareable.{IsShareable}
 
 -- literals of one variable are one literal of a clause that has no variable twice

@@ -1,9 +1,11 @@
 use Rattle.std.proofs.Common.{◌≡◌, ◌∙◌, ◌++◌, ap, subst, sym, arith, false}
-use Rattle.std.proofs.lemmas.List.Elements.{All-contains_itself}
+use Rattle.std.proofs.lemmas.List.Elements.{All-contains_itself, All-nil}
 use Rattle.clause_store.specs.Clause.{Meets}
 use Rattle.clause_store.specs.Laws.{AreMoreClauses}
 use Rattle.normal_program.specs.Clauses.{base_clauses}
+use Rattle.short_clauses.specs.Shareable.{IsShareable}
 use Rattle.coherence_test.specs.AnswerSets.{ExtendsAnswerSet}
+use Rattle.coherence_test.specs.Sharing.{AreShareable}
 use Rattle.coherence_test.specs.Testing.{IsKept}
 use Rattle.coherence_test.proofs.SoundLemmas.{base_meets, open_sound}
 use Rattle.coherence_test.proofs.tester.Tester.open.Goals as goal
@@ -36,17 +38,19 @@ invariant_of-result c =
     let done = c.in_ok-complete.ensures in
     let opened = c.in_ok-engine.ensures in
     let store : engine.state.clauses ≡ base =
-    opened.store ∙ done.added ∙ ap (λ it. it ++ base) c.open-store.ensures in
-    subst (λ disjunctions. IsKept normal engine disjunctions false) (sym c.open-3.ensures)
-    (record {
-      is_normal = c.requires.normal;
-      plain = c.requires.plain;
-      few = omega arith;
-      sound =
-          λ alive.
-          open_sound normal engine
-          (ap (λ it. it.normal) opened.theory ∙ ap (λ it. it.normal) c.in_ok-theory.ensures)
-          opened.right opened.alive
-          (ap (λ it. it.vars) opened.trail ∙ c.variables-vars.ensures) opened.defined store
-          done.over;
-    })
+    opened.store ∙ done.added ∙ ap (λ it. it ++ base) c.open-store.ensures in (
+      subst (λ disjunctions. IsKept normal engine disjunctions false) (sym c.open-3.ensures)
+          (record {
+            is_normal = c.requires.normal;
+            plain = c.requires.plain;
+            few = omega arith;
+            sound =
+                λ alive.
+                open_sound normal engine
+                (ap (λ it. it.normal) opened.theory ∙ ap (λ it. it.normal) c.in_ok-theory.ensures)
+                opened.right opened.alive
+                (ap (λ it. it.vars) opened.trail ∙ c.variables-vars.ensures) opened.defined store
+                done.over;
+          }),
+      subst (AreShareable normal) (sym c.new.ensures.items) (All-nil (IsShareable normal)),
+    )
