@@ -79,6 +79,15 @@ impl<T: Theory> Engine<T> {
         self.steering.prefer(lits);
     }
 
+    /// Lets variables be decided in the order of another engine, and as they were last there. After
+    /// want of memory the order is as before.
+    pub fn take_after(&mut self, alloc: Global, other: &Engine<T>) -> Result<(), NoMemory>
+        ensures { self.new ≡ record self.old { steering = self.new.steering } }
+    {
+        self.steering
+            .take_after(alloc, &other.steering, other.state.trail())
+    }
+
     /// Goes back to a level, and the theory with it.
     pub(crate) fn go_back(&mut self, level: u32)
         requires right { IsRight (T.meaning self.old.theory) (T.followed self.old.theory)

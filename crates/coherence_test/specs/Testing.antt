@@ -1,5 +1,5 @@
 -- What contracts see of a tester, and what its calls do.
-use Rattle.std.specs.Prelude.{◌≡◌, ◌≤◌, ◌<◌, ◌+◌, ◌⊎◌, ℕ, Bool, false, List, ◌++◌, length, All}
+use Rattle.std.specs.Prelude.{◌≡◌, ◌≤◌, ◌<◌, ◌+◌, ◌⊎◌, ℕ, Bool, false, List, [], ◌++◌, length, All}
 use Rattle.std.specs.Prelude.{Contains, IfSome, Option, None, Some}
 use Rattle.clause_store.specs.declared.literal.Lit.{Lit}
 use Rattle.clause_store.specs.declared.theory_says.Short.{Short}
@@ -27,6 +27,16 @@ pub record Testing : Type 0 where
   pub disjunctions : List (List Lit)
   pub left : List Short
   pub dead : Bool
+
+-- a tester that was opened: the base clauses, no disjunction, nothing to be handed on
+abbrev pub opened : Normal → Testing
+opened normal = record {
+  normal = normal;
+  clauses = base_clauses normal;
+  disjunctions = [];
+  left = [];
+  dead = false;
+}
 
 -- how many selectors there are
 abbrev pub selectors : Normal → ℕ

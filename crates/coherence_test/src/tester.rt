@@ -10,7 +10,7 @@ ghost use Rattle.coherence_test.specs.Asked.{IsTested, IsTestedAt};
 ghost use Rattle.coherence_test.specs.Selectors.{AreUsed, IsImport};
 ghost use Rattle.coherence_test.specs.Sharing.{HasNoted};
 ghost use Rattle.coherence_test.specs.Testing.{HasAdded, HasCountedUnits, IsPast, MayAsk};
-ghost use Rattle.coherence_test.specs.Testing.{selectors, used_by};
+ghost use Rattle.coherence_test.specs.Testing.{opened, selectors, used_by};
 
 use crate::asked::{Asked, Tested};
 use crate::search::Search;
@@ -20,7 +20,8 @@ use assumption_engine::Engine;
 use clause_store::{Budget, Lit, Short, Store, Units};
 use completion::complete;
 use item_list::NoMemory;
-use normal_program::Normal;
+use normal_program::{Normal, base_clauses_are_entailed};
+use normal_program::base_clauses_are_over_atoms_and_bodies;
 use std::alloc::Global;
 use std::marker::Model;
 
@@ -57,16 +58,59 @@ impl<'a> Tester<'a> {
     pub fn open(alloc: Global, normal: &'a Normal) -> Result<Tester<'a>, NoMemory>
         requires normal { IsNormal normal.now }
         requires plain { HasNoDisjunction normal.now }
-        ensures { IfOk result (λ it. it ≡ record {
-          normal = normal.now;
-          clauses = base_clauses normal.now;
-          disjunctions = [];
-          left = [];
-          dead = false;
-        }) }
+        ensures { IfOk result (λ it. it ≡ opened normal.now) }
     {
         let mut store = Store::open();
         complete(alloc, normal, &mut store)?;
+        Tester::over(alloc, normal, store)
+    }
+
+    /// The same tester, with a copy of the completed store in place of completion.
+    pub fn open_over(
+        alloc: Global,
+        normal: &'a Normal,
+        completed: &Store,
+    ) -> Result<Tester<'a>, NoMemory>
+        requires normal { IsNormal normal.now }
+        requires plain { HasNoDisjunction normal.now }
+        requires completed { completed.now ≡ base_clauses normal.now }
+        ensures { IfOk result (λ it. it ≡ opened normal.now) }
+    {
+        let store = completed.copy(alloc)?;
+        Tester::over(alloc, normal, store)
+    }
+
+    /// The same tester, which decides in the order of another tester of the normal form, and as that
+    /// one did last. It takes no clause from there.
+    pub fn open_after(
+        alloc: Global,
+        completed: &Store,
+        other: &Tester<'a>,
+    ) -> Result<Tester<'a>, NoMemory>
+        requires { completed.now ≡ base_clauses other.now.normal }
+        ensures { IfOk result (λ it. it ≡ opened other.now.normal) }
+    {
+        let mut tester = Tester::open_over(alloc, other.search.normal, completed)?;
+        tester.take_after(alloc, other)?;
+        Ok(tester)
+    }
+
+    /// Decides in the order of another tester, and as that one did last.
+    fn take_after(&mut self, alloc: Global, other: &Tester<'a>) -> Result<(), NoMemory>
+        ensures { self.new ≡ self.old }
+    {
+        self.search.engine.take_after(alloc, &other.search.engine)
+    }
+
+    /// A tester with the clauses of a completed store.
+    fn over(alloc: Global, normal: &'a Normal, store: Store) -> Result<Tester<'a>, NoMemory>
+        requires normal { IsNormal normal.now }
+        requires plain { HasNoDisjunction normal.now }
+        requires completed { store ≡ base_clauses normal.now }
+        ensures { IfOk result (λ it. it ≡ opened normal.now) }
+    {
+        base_clauses_are_over_atoms_and_bodies();
+        base_clauses_are_entailed();
         let theory = AnswerSetTheory::open(alloc, normal)?;
         let vars = normal.variables();
         let engine = Engine::open(alloc, vars, store, theory)?;
@@ -79,6 +123,14 @@ impl<'a> Tester<'a> {
             left: Vec::new(alloc),
             dead: false,
         })
+    }
+
+    /// Lets the variables of these literals be decided first, as these literals, until conflicts
+    /// say otherwise. No answer depends on it.
+    pub fn prefer(&mut self, lits: &[Lit])
+        ensures { self.new ≡ self.old }
+    {
+        self.search.engine.prefer(lits);
     }
 
     /// How many disjunctions that are new may still be asked for.
