@@ -3,7 +3,7 @@ ghost use Rattle.std.specs.Prelude.{◌≡◌, ◌≤◌, ◌<◌, ◌^◌, [], 
 ghost use Rattle.std.specs.Prelude.{OnErr, OnOk};
 ghost use Rattle.clause_store.specs.Clause.{AreOver, Meets};
 ghost use Rattle.clause_store.specs.Laws.{AreMoreClauses};
-ghost use Rattle.clause_store.specs.Trail.{present_level};
+ghost use Rattle.clause_store.specs.Trail.{IsTrail, IsTrailOf, present_level};
 ghost use Rattle.assumption_engine.specs.Theory.{MeansTheSame};
 ghost use Rattle.assumption_engine.specs.Engine.{IsRight, WentBack};
 
@@ -69,6 +69,15 @@ impl<T: Theory> Engine<T> {
         ensures { result.now ≡ self.now.state.clauses }
     {
         self.state.store()
+    }
+
+    /// The assignments are a trail of the clauses, as contracts know it then. It does nothing when it
+    /// runs.
+    pub fn vouch(&self)
+        ensures is_trail { IsTrail self.now.state.trail }
+        ensures of_store { IsTrailOf self.now.state.trail.steps self.now.state.clauses }
+    {
+        self.state.vouch();
     }
 
     /// Lets the variables of these literals be decided first, as these literals, until conflicts

@@ -16,7 +16,7 @@ ghost use Rattle.coherence_test.specs.Testing.{HasAdded, HasCountedUnits, IsSoun
 ghost use Rattle.coherence_test.specs.Testing.{selectors, used_by};
 
 use crate::asked::{Asked, Tested};
-use crate::telling::{core_of, set_on};
+use crate::telling::{core_of, core_of_one, false_at_zero, set_on};
 use crate::theory::AnswerSetTheory;
 use assumption_engine::{Answer, Engine};
 use clause_store::{Budget, Clause, Lit, Units, Var};
@@ -209,8 +209,47 @@ impl<'a> Search<'a> {
         }
     }
 
-    /// Asks the engine for an answer set that makes literals true.
+    /// Answers the core of a literal that is false by the assignments of level 0 at once, and else
+    /// asks the engine.
     fn ask(&mut self, alloc: Global, assumed: &[Lit], budget: &mut Budget, slice: u32) -> Answer
+        requires normal { IsNormal self.old.normal.now }
+        requires sound { IsSound self.old.normal.now self.old.engine self.old.disjunctions }
+        requires few { length self.old.disjunctions ≤ selectors self.old.normal.now }
+        requires over { All (IsOver (greatest_body_var self.old.normal.now
+            + length self.old.disjunctions)) assumed.now }
+        requires some { 1 ≤ slice }
+        requires unused { length budget.old.units < budget.old.limit }
+        ensures sound { result ≢ Answer.NoMemory
+            → IsSound self.new.normal.now self.new.engine self.new.disjunctions }
+        ensures added { result ≢ Answer.NoMemory → HasAdded self.old.normal.now
+            self.old.disjunctions self.old.engine.state.clauses self.new.engine.state.clauses
+            budget.old budget.new }
+        ensures counted { (used : ℕ)
+            → All (IsOver (greatest_body_var self.old.normal.now + used)) assumed.now
+            → HasCountedUnits self.old.normal.now self.old.disjunctions
+            self.old.engine.state.clauses used budget.old budget.new }
+        ensures says { result ≢ Answer.NoMemory → Says self.old.normal.now self.new.engine
+            self.old.disjunctions assumed.now result }
+        ensures at { result ≢ Answer.NoMemory
+            → IsCountedRight (length budget.old.units + slice) budget.new result }
+        ensures disjunctions { self.new.disjunctions ≡ self.old.disjunctions }
+        ensures normal { self.new.normal ≡ self.old.normal }
+    {
+        self.engine.vouch();
+        match false_at_zero(self.engine.trail(), assumed) {
+            Some(lit) => core_of_one(alloc, lit),
+            None => self.ask_engine(alloc, assumed, budget, slice),
+        }
+    }
+
+    /// Asks the engine for an answer set that makes literals true.
+    fn ask_engine(
+        &mut self,
+        alloc: Global,
+        assumed: &[Lit],
+        budget: &mut Budget,
+        slice: u32,
+    ) -> Answer
         requires normal { IsNormal self.old.normal.now }
         requires sound { IsSound self.old.normal.now self.old.engine self.old.disjunctions }
         requires few { length self.old.disjunctions ≤ selectors self.old.normal.now }

@@ -20,8 +20,7 @@ use assumption_engine::Engine;
 use clause_store::{Budget, Lit, Short, Store, Units};
 use completion::complete;
 use item_list::NoMemory;
-use normal_program::{Normal, base_clauses_are_entailed};
-use normal_program::base_clauses_are_over_atoms_and_bodies;
+use normal_program::{Normal, base_clauses_are_entailed, base_clauses_are_over_atoms_and_bodies};
 use std::alloc::Global;
 use std::marker::Model;
 

@@ -1,4 +1,4 @@
-use Rattle.std.proofs.Common.{◌≡◌, ◌∙◌, ap, subst, sym, arith, false}
+use Rattle.std.proofs.Common.{◌∙◌, ap, subst, sym, arith, false}
 use Rattle.std.proofs.lemmas.List.Elements.{All-contains_itself, All-nil}
 use Rattle.clause_store.specs.Clause.{Meets}
 use Rattle.clause_store.specs.Laws.{AreMoreClauses}
