@@ -170,7 +170,8 @@ impl<'a> Search<'a> {
         Ok(var)
     }
 
-    /// Asks the engine for an answer set that makes the assumed literals true, and the selector.
+    /// Asks for an answer set that makes the assumed literals true, and the selector. A literal that
+    /// is false by the assignments of level 0 is a core, and the engine isn't asked.
     fn ask_with(
         &mut self,
         alloc: Global,
@@ -203,53 +204,18 @@ impl<'a> Search<'a> {
         ensures disjunctions { self.new.disjunctions ≡ self.old.disjunctions }
         ensures normal { self.new.normal ≡ self.old.normal }
     {
-        match assumed_for(alloc, asked, selector) {
-            Ok(assumed) => self.ask(alloc, assumed.as_slice(), budget, slice),
-            Err(_) => Answer::NoMemory,
-        }
-    }
-
-    /// Answers the core of a literal that is false by the assignments of level 0 at once, and else
-    /// asks the engine.
-    fn ask(&mut self, alloc: Global, assumed: &[Lit], budget: &mut Budget, slice: u32) -> Answer
-        requires normal { IsNormal self.old.normal.now }
-        requires sound { IsSound self.old.normal.now self.old.engine self.old.disjunctions }
-        requires few { length self.old.disjunctions ≤ selectors self.old.normal.now }
-        requires over { All (IsOver (greatest_body_var self.old.normal.now
-            + length self.old.disjunctions)) assumed.now }
-        requires some { 1 ≤ slice }
-        requires unused { length budget.old.units < budget.old.limit }
-        ensures sound { result ≢ Answer.NoMemory
-            → IsSound self.new.normal.now self.new.engine self.new.disjunctions }
-        ensures added { result ≢ Answer.NoMemory → HasAdded self.old.normal.now
-            self.old.disjunctions self.old.engine.state.clauses self.new.engine.state.clauses
-            budget.old budget.new }
-        ensures counted { (used : ℕ)
-            → All (IsOver (greatest_body_var self.old.normal.now + used)) assumed.now
-            → HasCountedUnits self.old.normal.now self.old.disjunctions
-            self.old.engine.state.clauses used budget.old budget.new }
-        ensures says { result ≢ Answer.NoMemory → Says self.old.normal.now self.new.engine
-            self.old.disjunctions assumed.now result }
-        ensures at { result ≢ Answer.NoMemory
-            → IsCountedRight (length budget.old.units + slice) budget.new result }
-        ensures disjunctions { self.new.disjunctions ≡ self.old.disjunctions }
-        ensures normal { self.new.normal ≡ self.old.normal }
-    {
+        let Ok(assumed) = assumed_for(alloc, asked, selector) else {
+            return Answer::NoMemory;
+        };
         self.engine.vouch();
-        match false_at_zero(self.engine.trail(), assumed) {
+        match false_at_zero(self.engine.trail(), assumed.as_slice()) {
             Some(lit) => core_of_one(alloc, lit),
-            None => self.ask_engine(alloc, assumed, budget, slice),
+            None => self.ask(alloc, assumed.as_slice(), budget, slice),
         }
     }
 
     /// Asks the engine for an answer set that makes literals true.
-    fn ask_engine(
-        &mut self,
-        alloc: Global,
-        assumed: &[Lit],
-        budget: &mut Budget,
-        slice: u32,
-    ) -> Answer
+    fn ask(&mut self, alloc: Global, assumed: &[Lit], budget: &mut Budget, slice: u32) -> Answer
         requires normal { IsNormal self.old.normal.now }
         requires sound { IsSound self.old.normal.now self.old.engine self.old.disjunctions }
         requires few { length self.old.disjunctions ≤ selectors self.old.normal.now }

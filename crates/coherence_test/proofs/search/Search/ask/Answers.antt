@@ -1,14 +1,51 @@
-use Rattle.std.proofs.Common.{subst, sym}
-use Rattle.coherence_test.specs.Searching.{IsRefusedAtZero, Says}
-use Rattle.coherence_test.proofs.ZeroLemmas.{zero_says}
+use Rattle.std.proofs.Common.{length, subst}
+use Rattle.assumption_engine.specs.Answer.{IsAnswer}
+use Rattle.coherence_test.specs.AnswerSets.{answer_sets}
+use Rattle.coherence_test.proofs.SoundLemmas.{ask_sound}
+use Rattle.coherence_test.proofs.AskLemmas.{answer_back, asked_added, asked_counted, asked_in_use}
 use Rattle.coherence_test.proofs.search.Search.ask.Goals as goal
 
-pub returns-in-Some-clause-says : goal.returns-in-Some-clause-says
-returns-in-Some-clause-says c not =
+pub returns-clause-sound : goal.returns-clause-sound
+returns-clause-sound c not =
     let old = c.args.self.now in
-    subst (Says old.normal.now old.engine old.disjunctions c.args.assumed.now)
-    (sym (c.core_of_one.ensures not))
-    (zero_says old.normal.now old.engine old.disjunctions c.args.assumed.now c.in-Some.lit
-    c.requires.sound c.vouch.ensures.is_trail c.vouch.ensures.of_store
-    (subst (λ trail. IsRefusedAtZero trail.steps c.args.assumed.now c.in-Some.lit) c.trail.ensures
-    c.in-Some.ensures))
+    let alive = c.ask.ensures.alive not in
+    let on = c.ask.ensures.on alive in
+    ask_sound old.normal.now old.engine c.ask.new.self old.disjunctions c.args.budget.now
+    c.ask.new.budget c.requires.sound c.ask.ensures.same (c.ask.ensures.right alive) alive
+    c.ask.ensures.defined on.vars
+    (asked_added old.normal.now old.engine.theory.normal old.disjunctions c.args.assumed.now
+    old.engine.state c.ask.new.self.state c.args.budget.now c.ask.new.budget
+    c.requires.sound.same on)
+    (asked_in_use old.normal.now old.engine.theory.normal old.disjunctions c.args.assumed.now
+    old.engine.state c.ask.new.self.state c.args.budget.now c.ask.new.budget
+    c.requires.sound.same on (length old.disjunctions) c.requires.sound.in_use c.requires.over)
+
+pub returns-clause-added : goal.returns-clause-added
+returns-clause-added c not =
+    let old = c.args.self.now in
+    asked_added old.normal.now old.engine.theory.normal old.disjunctions c.args.assumed.now
+    old.engine.state c.ask.new.self.state c.args.budget.now c.ask.new.budget
+    c.requires.sound.same (c.ask.ensures.on (c.ask.ensures.alive not))
+
+pub returns-clause-counted : goal.returns-clause-counted
+returns-clause-counted c used over =
+    let old = c.args.self.now in
+    asked_counted old.normal.now old.engine.theory.normal (length old.disjunctions) used
+    old.disjunctions old.engine.state.clauses old.engine.defined c.args.assumed.now
+    c.args.budget.now c.ask.new.budget c.requires.sound.same c.requires.sound.in_use
+    c.requires.sound.over c.requires.sound.defined over c.ask.ensures.counted
+
+pub returns-clause-says : goal.returns-clause-says
+returns-clause-says c not =
+    let old = c.args.self.now in
+    let says = (c.ask.ensures.answer not).says in (
+      c.ask.new.budget.limit,
+      subst
+          (λ defined.
+          IsAnswer (answer_sets old.normal.now) defined c.args.assumed.now c.ask.new.budget.limit
+          c.ask.new.self.state.trail c.ask.result)
+          c.requires.sound.defined
+          (answer_back (answer_sets old.normal.now) (answer_sets old.engine.theory.normal)
+          old.engine.defined c.args.assumed.now c.ask.new.budget.limit c.ask.new.self.state.trail
+          c.ask.result c.requires.sound.same says),
+    )
