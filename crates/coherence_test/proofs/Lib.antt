@@ -6,5 +6,7 @@ pub mod GivenLemmas
 pub mod SelectorLemmas
 pub mod SoundLemmas
 pub mod AskLemmas
+pub mod ZeroLemmas
 pub mod TellLemmas
 pub mod TestLemmas
+pub mod ShareLemmas

@@ -4,3 +4,4 @@ pub mod Asked
 pub mod Selectors
 pub mod Testing
 pub mod Searching
+pub mod Sharing
