@@ -1,12 +1,10 @@
 -- What the values of literals say, and sets of atoms.
-use Rattle.std.proofs.Common.{◌≡◌, ◌≢◌, ◌<◌, ◌⊎◌, ℕ, Bool, true, false, not, List, length, set}
+use Rattle.std.proofs.Common.{◌≡◌, ◌≢◌, ◌⊎◌, ℕ, Bool, true, false, not, List, set}
 use Rattle.std.proofs.Common.{cond, refl, sym, ap, ◌∙◌, arith, ⊎_elim, inl, inr}
 use Rattle.std.proofs.Common.{◌/◌, ◌*◌, ◌+◌, eqb, Option, Some, None}
 use Rattle.std.proofs.lemmas.Bool.{cases_Bool, cases_eq, both_ways, false≢true}
 use Rattle.std.proofs.lemmas.Bool.{eqb-true, eqb-false, ne_eqb}
-use Rattle.std.proofs.lemmas.List.{get_or-set_other}
-use Rattle.std.proofs.lemmas.List.Sums.{sum_by-set}
-use Rattle.ground_program.specs.Meaning.{IsPart, IsIn, has}
+use Rattle.ground_program.specs.Meaning.{IsIn, has}
 use Rattle.clause_store.specs.declared.literal.Lit.{Lit}
 use Rattle.clause_store.specs.declared.literal.Value.{Value}
 use Rattle.clause_store.specs.declared.literal.Value.TheVariants.{Yes, No, Unset}
