@@ -4,7 +4,6 @@ ghost use Rattle.std.specs.Prelude.{false, true};
 ghost use Rattle.std.specs.Prelude.{length};
 ghost use Rattle.normal_program.specs.Clauses.{base_clauses};
 ghost use Rattle.normal_program.specs.Limit.{IsNormal};
-ghost use Rattle.coherence_test.specs.AnswerSets.{HasNoDisjunction};
 ghost use Rattle.coherence_test.specs.Asked.{IsTested, IsTestedAt};
 ghost use Rattle.coherence_test.specs.Selectors.{AreUsed, IsImport};
 ghost use Rattle.coherence_test.specs.Testing.{HasAdded, HasCountedUnits, IsPast, MayAsk};
@@ -46,10 +45,9 @@ impl<'a> Model for Tester<'a> {
 }
 
 impl<'a> Tester<'a> {
-    /// A tester with the base clauses of a normal form without disjunctive rules.
+    /// A tester with the base clauses of a normal form.
     pub fn open(alloc: Global, normal: &'a Normal) -> Result<Tester<'a>, NoMemory>
-        requires normal { IsNormal normal.now }
-        requires plain { HasNoDisjunction normal.now }
+        requires { IsNormal normal.now }
         ensures { IfOk result (λ it. it ≡ record {
           normal = normal.now;
           clauses = base_clauses normal.now;

@@ -39,8 +39,7 @@ invariant_of-result c =
     opened.store ∙ done.added ∙ ap (λ it. it ++ base) c.open-store.ensures in
     subst (λ disjunctions. IsKept normal engine disjunctions false) (sym c.open-3.ensures)
     (record {
-      is_normal = c.requires.normal;
-      plain = c.requires.plain;
+      is_normal = c.requires;
       few = omega arith;
       sound =
           λ alive.
