@@ -17,18 +17,11 @@ use Rattle.normal_program.specs.Limit.{IsNormal}
 use Rattle.normal_program.specs.Loop.{FollowsFromBody, IsAtomOf}
 use Rattle.normal_program.proofs.RangeLemmas.{IsNormal-in_range}
 use Rattle.weight_propagator.specs.Weighed.{IsSaid}
-use Rattle.unfounded_sets.specs.declared.unfounded.Found.{Found}
-use Rattle.unfounded_sets.specs.declared.unfounded.Found.TheVariants.{Nothing, Loop}
-use Rattle.unfounded_sets.specs.Found.{IsAnswer, IsLoopWritten}
+use Rattle.unfounded_sets.specs.Found.{AreFounded, IsLoopWritten}
 use Rattle.assumption_engine.specs.Theory.{IsGiven}
 use Rattle.coherence_test.specs.AnswerSets.{answer_sets}
-use Rattle.coherence_test.specs.Looking.{IsLookedAt}
+use Rattle.coherence_test.specs.Looking.{HasNothing}
 use Rattle.coherence_test.proofs.LocalLemmas.{local_holds}
-
--- what is said where founding answers
-abbrev pub looked : Found → Says
-looked Loop = Given
-looked Nothing = Quiet
 
 -- a clause of one weight body is over atoms and bodies
 speaks_over : (normal : Normal) (clause : List Lit) (vars : ℕ) → IsNormal normal
@@ -90,18 +83,14 @@ loop_given normal trail clause is range written = record {
   standing = written.standing;
 }
 
--- what founding says where weight bodies are quiet
-pub found_looked : (normal : Normal) (inside : Option (List Bool)) (trail : Assigned)
-    (one two : List Lit) (says : Says) (found : Found) → IsNormal normal
-    → greatest_body_var normal ≤ trail.vars → inside ≡ None → says ≡ Quiet
-    → IsSaid inside normal trail one says → IsAnswer normal trail two found
-    → IsLookedAt normal trail two (looked found)
-found_looked normal inside trail one two says Loop is range everywhere quiet said answer =
-    loop_given normal trail two is range answer.written
-found_looked normal inside trail one two says Nothing is range everywhere quiet said answer =
-    record {
-      quiet =
-          subst (λ (it : Says). IsSaid None normal trail one it) quiet
-          (subst (λ (it : Option (List Bool)). IsSaid it normal trail one says) everywhere said);
-      founded = answer;
-    }
+-- weight bodies are quiet, and all is founded
+pub nothing_said : (normal : Normal) (inside : Option (List Bool)) (trail : Assigned)
+    (clause : List Lit) (says : Says) → inside ≡ None → says ≡ Quiet
+    → IsSaid inside normal trail clause says → AreFounded normal trail.steps
+    → HasNothing normal trail
+nothing_said normal inside trail clause says everywhere quiet said founded = record {
+  quiet =
+      subst (λ (it : Says). IsSaid None normal trail clause it) quiet
+      (subst (λ (it : Option (List Bool)). IsSaid it normal trail clause says) everywhere said);
+  founded = founded;
+}

@@ -8,7 +8,9 @@ use Rattle.clause_store.specs.Trail.{Assigned, values_of}
 use Rattle.normal_program.specs.declared.normal.Normal.{Normal}
 use Rattle.normal_program.specs.Clauses.{base_clauses}
 use Rattle.weight_propagator.specs.Gives.{IsQuiet}
-use Rattle.unfounded_sets.specs.Found.{AreFounded}
+use Rattle.unfounded_sets.specs.declared.unfounded.Found.{Found}
+use Rattle.unfounded_sets.specs.declared.unfounded.Found.TheVariants.{Nothing, Loop}
+use Rattle.unfounded_sets.specs.Found.{AreFounded, IsLoopWritten}
 use Rattle.assumption_engine.specs.Theory.{IsGiven}
 use Rattle.coherence_test.specs.AnswerSets.{answer_sets}
 use Rattle.coherence_test.specs.Laws.{IsTotalOver}
@@ -17,6 +19,11 @@ use Rattle.coherence_test.specs.Laws.{IsTotalOver}
 pub record HasNothing (normal : Normal) (trail : Assigned) : Type 0 where
   pub quiet : IsQuiet None normal trail.steps
   pub founded : AreFounded normal trail.steps
+
+-- what is found, with the loop clause that is written
+abbrev pub IsFoundOn : Normal → Assigned → List Lit → Found → Type 0
+IsFoundOn normal trail clause Nothing = AreFounded normal trail.steps
+IsFoundOn normal trail clause Loop = IsLoopWritten normal trail clause
 
 -- what is said, with the clause that is given
 abbrev pub IsLookedAt : Normal → Assigned → List Lit → Says → Type 0

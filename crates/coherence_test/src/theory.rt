@@ -11,7 +11,7 @@ ghost use Rattle.normal_program.specs.Normal.{greatest_body_var};
 ghost use Rattle.normal_program.specs.Spent.{IsDisjunctive};
 ghost use Rattle.assumption_engine.specs.Theory.{Meaning, MeansTheSame, IsGiven, IsChecked};
 ghost use Rattle.coherence_test.specs.AnswerSets.{answer_sets};
-ghost use Rattle.coherence_test.specs.Looking.{IsCandidate, IsLookedAt};
+ghost use Rattle.coherence_test.specs.Looking.{IsCandidate, IsFoundOn, IsLookedAt};
 
 use crate::telling::set_on;
 use assumption_engine::{Check, Theory};
@@ -73,10 +73,30 @@ impl<'a> AnswerSetTheory<'a> {
         if let Says::Clause = self.weights.propagate(alloc, self.normal, trail, out)? {
             return Ok(Says::Clause);
         }
-        match self.unfounded.find(alloc, self.normal, trail, out)? {
+        match self.find_loop(alloc, trail, out)? {
             Found::Loop => Ok(Says::Clause),
             Found::Nothing => Ok(Says::Quiet),
         }
+    }
+
+    /// A loop clause of one atom, or else of all that aren't founded. Where no rule is disjunctive
+    /// founding gives both.
+    fn find_loop(
+        &mut self,
+        alloc: Global,
+        trail: &Trail,
+        out: &mut Clause,
+    ) -> Result<Found, NoMemory>
+        requires { greatest_body_var self.old.normal ≤ trail.now.vars }
+        ensures found { IfOk result (IsFoundOn self.old.normal trail.now out.new) }
+        ensures same { self.new ≡ self.old }
+    {
+        if self.disjunctive {
+            if let Found::Loop = self.unfounded.find_single(alloc, self.normal, trail, out)? {
+                return Ok(Found::Loop);
+            }
+        }
+        self.unfounded.find(alloc, self.normal, trail, out)
     }
 
     /// Judges a total assignment. Where weight bodies and founding say nothing, only a disjunctive

@@ -80,7 +80,7 @@ fn mark_answer(normal: &Normal, trail: &Trail, rule: &NormalRule, part: &[bool],
 }
 
 /// A true head outside the part, of a disjunctive rule.
-fn other_head(normal: &Normal, trail: &Trail, rule: &NormalRule, part: &[bool]) -> Option<u32>
+pub fn other_head(normal: &Normal, trail: &Trail, rule: &NormalRule, part: &[bool]) -> Option<u32>
     requires covered { IsCovered normal.now trail.now.vars }
     requires rule { IsRuleIn normal.now rule.now }
     ensures none { IfNone result (¬ HasOther trail.now.steps part.now rule.now) }

@@ -1,9 +1,7 @@
 use Rattle.std.proofs.Common.{subst}
-use Rattle.unfounded_sets.specs.declared.unfounded.Found.{Found}
-use Rattle.coherence_test.specs.Looking.{IsLookedAt}
-use Rattle.coherence_test.proofs.GivenLemmas.{found_looked, looked, weight_given}
+use Rattle.coherence_test.specs.Looking.{IsFoundOn}
+use Rattle.coherence_test.proofs.GivenLemmas.{loop_given, nothing_said, weight_given}
 use Rattle.coherence_test.proofs.theory.AnswerSetTheory.look.Goals as goal
-use Rattle.coherence_test.proofs.theory.AnswerSetTheory.look.Goals.{in-Loop, in-Nothing}
 
 pub returns-in-Clause-clause-says : goal.returns-in-Clause-clause-says
 returns-in-Clause-clause-says c =
@@ -12,18 +10,20 @@ returns-in-Clause-clause-says c =
     c.propagate.new.out c.in_ok-propagate.field-0 c.self.invariant.is_normal
     c.self.invariant.everywhere c.in-Clause.is c.in_ok-propagate.ensures.says)
 
-pub returns-clause-says : goal.returns-clause-says
-returns-clause-says c =
-    let normal = c.self.inside.normal.now in
-    let trail = c.args.trail.now in
+pub returns-in-Loop-clause-says : goal.returns-in-Loop-clause-says
+returns-in-Loop-clause-says c =
     let range = rw (← c.self.view_is) at c.requires.range in
-    let said =
-    found_looked normal c.self.inside.weights.inside trail c.propagate.new.out c.find.new.out
-    c.in_ok-propagate.field-0 c.in_ok-find.field-0 c.self.invariant.is_normal range
-    c.self.invariant.everywhere c.in_default.is c.in_ok-propagate.ensures.says
-    c.in_ok-find.ensures.found in
-    let is_said = λ (found : Found). IsLookedAt normal trail c.find.new.out (looked found) in
-    elim c.match-branch-4.branch [
-      | in-Loop w ↦ rw (w.result-is, ← c.self.view_is) (subst is_said w.in-Loop.is said)
-      | in-Nothing w ↦ rw (w.result-is, ← c.self.view_is) (subst is_said w.in-Nothing.is said)
-    ]
+    rw (← c.self.view_is)
+    (loop_given c.self.inside.normal.now c.args.trail.now c.find_loop.new.out
+    c.self.invariant.is_normal range
+    (subst (IsFoundOn c.self.inside.normal.now c.args.trail.now c.find_loop.new.out) c.in-Loop.is
+    c.in_ok-find_loop.ensures.found))
+
+pub returns-in-Nothing-clause-says : goal.returns-in-Nothing-clause-says
+returns-in-Nothing-clause-says c =
+    rw (← c.self.view_is)
+    (nothing_said c.self.inside.normal.now c.self.inside.weights.inside c.args.trail.now
+    c.propagate.new.out c.in_ok-propagate.field-0 c.self.invariant.everywhere c.in_default.is
+    c.in_ok-propagate.ensures.says
+    (subst (IsFoundOn c.self.inside.normal.now c.args.trail.now c.find_loop.new.out)
+    c.in-Nothing.is c.in_ok-find_loop.ensures.found))
