@@ -125,7 +125,8 @@ turn_given one two defined assumed stop old new after (Ended answer) same below 
 
 -- ---- where a theory means the same
 
-answer_same : (one two : Meaning) (defined : List (List Lit)) (assumed : List Lit) (limit : ℕ)
+-- an answer says the same of it
+pub answer_same : (one two : Meaning) (defined : List (List Lit)) (assumed : List Lit) (limit : ℕ)
     (trail : Assigned) (answer : Answer) → MeansTheSame one two
     → IsAnswer two defined assumed limit trail answer
     → IsAnswer one defined assumed limit trail answer

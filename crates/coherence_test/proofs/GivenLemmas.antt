@@ -1,5 +1,4 @@
--- What weight bodies and founding give is what the theory gives, and what it accepts extends an
--- answer set.
+-- What weight bodies and founding say, and that what they give is what the theory gives.
 use Rattle.std.proofs.Common.{◌≡◌, ◌≤◌, ◌<◌, ℕ, Bool, List, Option, None, inl, inr, subst, length}
 use Rattle.std.proofs.Common.{arith, ⊎_elim}
 use Rattle.std.specs.Prelude.{All}
@@ -8,10 +7,9 @@ use Rattle.std.proofs.lemmas.Option.{slice_get_within, get_or_from_slice_get}
 use Rattle.clause_store.specs.declared.literal.Lit.{Lit}
 use Rattle.clause_store.specs.declared.theory_says.Says.{Says}
 use Rattle.clause_store.specs.declared.theory_says.Says.TheVariants.{Quiet, Clause as Given}
-use Rattle.clause_store.specs.Clause.{IsOver, Meets}
-use Rattle.clause_store.specs.Trail.{Assigned, values_of}
+use Rattle.clause_store.specs.Clause.{IsOver}
+use Rattle.clause_store.specs.Trail.{Assigned}
 use Rattle.normal_program.specs.declared.normal.Normal.{Normal}
-use Rattle.normal_program.specs.Clauses.{base_clauses}
 use Rattle.normal_program.specs.declared.normal.Part.{Part}
 use Rattle.normal_program.specs.declared.normal.BodyOf.{BodyOf}
 use Rattle.normal_program.specs.Normal.{greatest_body_var}
@@ -19,14 +17,11 @@ use Rattle.normal_program.specs.Limit.{IsNormal}
 use Rattle.normal_program.specs.Loop.{FollowsFromBody, IsAtomOf}
 use Rattle.normal_program.proofs.RangeLemmas.{IsNormal-in_range}
 use Rattle.weight_propagator.specs.Weighed.{IsSaid}
-use Rattle.unfounded_sets.specs.declared.unfounded.Found.{Found}
-use Rattle.unfounded_sets.specs.declared.unfounded.Found.TheVariants.{Nothing, Loop}
-use Rattle.unfounded_sets.specs.Found.{IsAnswer}
+use Rattle.unfounded_sets.specs.Found.{AreFounded, IsLoopWritten}
 use Rattle.assumption_engine.specs.Theory.{IsGiven}
-use Rattle.coherence_test.specs.AnswerSets.{answer_sets, ExtendsAnswerSet, HasNoDisjunction}
-use Rattle.coherence_test.specs.Laws.{IsTotalOver}
+use Rattle.coherence_test.specs.AnswerSets.{answer_sets}
+use Rattle.coherence_test.specs.Looking.{HasNothing}
 use Rattle.coherence_test.proofs.LocalLemmas.{local_holds}
-use Rattle.coherence_test.proofs.LeastLemmas.{founded_models}
 
 -- a clause of one weight body is over atoms and bodies
 speaks_over : (normal : Normal) (clause : List Lit) (vars : ℕ) → IsNormal normal
@@ -74,33 +69,28 @@ weight_given normal inside trail clause says is everywhere that said =
     }
 
 -- a loop clause
-pub loop_given : (normal : Normal) (trail : Assigned) (clause : List Lit) (found : Found)
-    → IsNormal normal → greatest_body_var normal ≤ trail.vars → found ≡ Loop
-    → IsAnswer normal trail clause found → IsGiven (answer_sets normal) trail clause
-loop_given normal trail clause found is range that answer =
-    let given = subst (λ (one : Found). IsAnswer normal trail clause one) that answer in
-    let written = given.written in
-    record {
-      may = record { local = inl written.is_loop; over = written.over };
-      holds = λ values model. local_holds normal clause values is (inl written.is_loop) model;
-      once = written.once;
-      over = λ k d within. record {
-        first = (written.over k d within).first;
-        last = omega (arith, range, (written.over k d within).last);
-      };
-      standing = written.standing;
-    }
+pub loop_given : (normal : Normal) (trail : Assigned) (clause : List Lit) → IsNormal normal
+    → greatest_body_var normal ≤ trail.vars → IsLoopWritten normal trail clause
+    → IsGiven (answer_sets normal) trail clause
+loop_given normal trail clause is range written = record {
+  may = record { local = inl written.is_loop; over = written.over };
+  holds = λ values model. local_holds normal clause values is (inl written.is_loop) model;
+  once = written.once;
+  over = λ k d within. record {
+    first = (written.over k d within).first;
+    last = omega (arith, range, (written.over k d within).last);
+  };
+  standing = written.standing;
+}
 
--- where neither gives one
-pub accepted : (normal : Normal) (inside : Option (List Bool)) (trail : Assigned)
-    (one two : List Lit) (says : Says) (found : Found) → IsNormal normal → HasNoDisjunction normal
-    → IsTotalOver normal trail → Meets (values_of trail) (base_clauses normal)
-    → inside ≡ None → says ≡ Quiet → IsSaid inside normal trail one says
-    → found ≡ Nothing → IsAnswer normal trail two found
-    → ExtendsAnswerSet normal (values_of trail)
-accepted normal inside trail one two says found is plain total meets everywhere quiet said nothing
-    answer =
-    founded_models normal trail is plain total meets
-    (subst (λ (it : Says). IsSaid None normal trail one it) quiet
-    (subst (λ (it : Option (List Bool)). IsSaid it normal trail one says) everywhere said))
-    (subst (λ (it : Found). IsAnswer normal trail two it) nothing answer)
+-- weight bodies are quiet, and all is founded
+pub nothing_said : (normal : Normal) (inside : Option (List Bool)) (trail : Assigned)
+    (clause : List Lit) (says : Says) → inside ≡ None → says ≡ Quiet
+    → IsSaid inside normal trail clause says → AreFounded normal trail.steps
+    → HasNothing normal trail
+nothing_said normal inside trail clause says everywhere quiet said founded = record {
+  quiet =
+      subst (λ (it : Says). IsSaid None normal trail clause it) quiet
+      (subst (λ (it : Option (List Bool)). IsSaid it normal trail clause says) everywhere said);
+  founded = founded;
+}

@@ -3,6 +3,7 @@ pub mod QuietLemmas
 pub mod LeastLemmas
 pub mod LocalLemmas
 pub mod GivenLemmas
+pub mod CheckLemmas
 pub mod SelectorLemmas
 pub mod SoundLemmas
 pub mod AskLemmas

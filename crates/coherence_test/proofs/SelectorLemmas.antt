@@ -119,13 +119,13 @@ all_entailed normal theory disjunctions units same over holds k d within set cho
     (extension normal set set ++ chosen) same
     (chosen_model normal disjunctions set chosen answer over are)) k d within
 
--- an assignment that extends an answer set begins with its extension
-pub begins : (normal : Normal) (values : List Bool) → ExtendsAnswerSet normal values
-    → extension normal (set_of normal values) (set_of normal values)
-    ++ drop (normal.atoms + 1 + length normal.bodies) values ≡ values
-begins normal values is =
+-- an assignment whose front is the extension of a set begins with it
+pub begins : (normal : Normal) (values set : List Bool)
+    → front_of normal values ≡ extension normal set set
+    → extension normal set set ++ drop (normal.atoms + 1 + length normal.bodies) values ≡ values
+begins normal values set extends =
     let size = normal.atoms + 1 + length normal.bodies in
-    ap (λ front. front ++ drop size values) (sym is.extends) ∙ take-append-drop size values
+    ap (λ front. front ++ drop size values) (sym extends) ∙ take-append-drop size values
 
 -- a clause over atoms and bodies that is entailed holds in each such assignment
 pub over_holds : (normal : Normal) (clause : List Lit) (values : List Bool)
@@ -137,7 +137,7 @@ over_holds normal clause values over entailed is =
     let size = length-extension normal set set is.answers.over in
     let low : All (λ lit. variable lit < length whole) clause =
     λ k d within. omega (arith, (over k d within).last, size) in
-    subst (λ all. HoldsIn all clause) (begins normal values is)
+    subst (λ all. HoldsIn all clause) (begins normal values set is.extends)
     (HoldsIn-longer whole (drop (normal.atoms + 1 + length normal.bodies) values) clause low
     (HoldsIn-front whole [] clause low (entailed set [] is.answers tt)))
 

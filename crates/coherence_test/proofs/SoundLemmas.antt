@@ -111,6 +111,51 @@ given_none normal disjunctions clauses count =
       history = record { history = tt; kind = All-nil (MayGive normal disjunctions) };
     }
 
+-- ---- a call
+
+-- the engine after it, with more disjunctions and clauses
+sound_with : (normal : Normal) (old new : Engine Theorised) (disjunctions more : List (List Lit))
+    (before after : Counted) → IsSound normal old disjunctions
+    → MeansTheSame (answer_sets old.theory.normal) (answer_sets new.theory.normal)
+    → IsRight (answer_sets new.theory.normal) new.theory.followed new.state new.defined
+    → new.dead ≡ false → new.defined ≡ defined_clauses normal more
+    → new.state.trail.vars ≡ old.state.trail.vars → AreOver (greatest_body_var normal) more
+    → (All (IsEntailed normal more) new.state.clauses → IsPast normal old.state.clauses more)
+    → HasAdded normal more old.state.clauses new.state.clauses before after
+    → All (All (IsInUse normal (length more))) new.state.clauses → IsSound normal new more
+sound_with normal old new disjunctions more before after sound still right alive defined vars over
+    past has in_use =
+    let same =
+    same_then (answer_sets normal) (answer_sets old.theory.normal)
+    (answer_sets new.theory.normal) sound.same still in
+    let entailed = sound_entailed normal new more same right defined over in
+    record {
+      same = same;
+      right = right;
+      alive = alive;
+      vars = vars ∙ sound.vars;
+      defined = defined;
+      over = over;
+      in_use = in_use;
+      past =
+          past_then normal old.state.clauses new.state.clauses more before after (past entailed) has
+          entailed;
+    }
+
+-- a question
+pub ask_sound : (normal : Normal) (old new : Engine Theorised)
+    (disjunctions : List (List Lit)) (before after : Counted) → IsSound normal old disjunctions
+    → MeansTheSame (answer_sets old.theory.normal) (answer_sets new.theory.normal)
+    → IsRight (answer_sets new.theory.normal) new.theory.followed new.state new.defined
+    → new.dead ≡ false → new.defined ≡ old.defined
+    → new.state.trail.vars ≡ old.state.trail.vars
+    → HasAdded normal disjunctions old.state.clauses new.state.clauses before after
+    → All (All (IsInUse normal (length disjunctions))) new.state.clauses
+    → IsSound normal new disjunctions
+ask_sound normal old new disjunctions before after sound still right alive defined vars has in_use =
+    sound_with normal old new disjunctions disjunctions before after sound still right alive
+    (defined ∙ sound.defined) vars sound.over (λ entailed. sound.past) has in_use
+
 -- ---- an import
 
 -- it holds in each model of the engine
@@ -141,30 +186,14 @@ pub import_sound : (normal : Normal) (old new : Engine Theorised)
     → new.state.trail.vars ≡ old.state.trail.vars
     → new.state.clauses ≡ old.state.clauses ++ clause ∷ [] → IsSound normal new disjunctions
 import_sound normal old new disjunctions clause sound import still right alive defined vars added =
-    let same =
-    same_then (answer_sets normal) (answer_sets old.theory.normal)
-    (answer_sets new.theory.normal) sound.same still in
-    let are : new.defined ≡ defined_clauses normal disjunctions = defined ∙ sound.defined in
     let none : Counted = record { limit = 0; units = [] } in
-    record {
-      same = same;
-      right = right;
-      alive = alive;
-      vars = vars ∙ sound.vars;
-      defined = are;
-      over = sound.over;
-      in_use =
-          subst (All (All (IsInUse normal (length disjunctions)))) (sym added)
-          (All-push (All (IsInUse normal (length disjunctions))) old.state.clauses clause
-          sound.in_use
-          (All-weaker (IsOver (greatest_body_var normal)) (IsInUse normal (length disjunctions))
-          (over_in_use normal (length disjunctions)) clause import.over));
-      past =
-          past_then normal old.state.clauses new.state.clauses disjunctions none none sound.past
-          (given_last normal disjunctions old.state.clauses new.state.clauses clause none added
-          (inr (inr import)))
-          (sound_entailed normal new disjunctions same right are sound.over);
-    }
+    ask_sound normal old new disjunctions none none sound still right alive defined vars
+    (given_last normal disjunctions old.state.clauses new.state.clauses clause none added
+    (inr (inr import)))
+    (subst (All (All (IsInUse normal (length disjunctions)))) (sym added)
+    (All-push (All (IsInUse normal (length disjunctions))) old.state.clauses clause sound.in_use
+    (All-weaker (IsOver (greatest_body_var normal)) (IsInUse normal (length disjunctions))
+    (over_in_use normal (length disjunctions)) clause import.over)))
 
 -- ---- a disjunction that is new
 
@@ -289,72 +318,26 @@ define_sound normal old new disjunctions any sound any_over still right alive de
     let clause = selector_clause (first + length disjunctions) any in
     let more = disjunctions ++ any ∷ [] in
     let one_more : length more ≡ length disjunctions + 1 = length-append disjunctions (any ∷ []) in
-    let same =
-    same_then (answer_sets normal) (answer_sets old.theory.normal)
-    (answer_sets new.theory.normal) sound.same still in
-    let are : new.defined ≡ defined_clauses normal more =
-    defined ∙ ap (λ all. all ++ clause ∷ []) sound.defined
-    ∙ sym (defined_push first disjunctions any) in
-    let over : AreOver (greatest_body_var normal) more =
-    All-push (All (IsOver (greatest_body_var normal))) disjunctions any sound.over any_over in
-    let entailed = sound_entailed normal new more same right are over in
     let none : Counted = record { limit = 0; units = [] } in
-    record {
-      same = same;
-      right = right;
-      alive = alive;
-      vars = vars ∙ sound.vars;
-      defined = are;
-      over = over;
-      in_use =
-          subst (λ used. All (All (IsInUse normal used)) new.state.clauses) (sym one_more)
-          (subst (All (All (IsInUse normal (length disjunctions + 1)))) (sym added)
-          (All-push (All (IsInUse normal (length disjunctions + 1))) old.state.clauses clause
-          (All-weaker (All (IsInUse normal (length disjunctions)))
-          (All (IsInUse normal (length disjunctions + 1)))
-          (λ it. All-weaker (IsInUse normal (length disjunctions))
-          (IsInUse normal (length disjunctions + 1))
-          (λ lit. in_use_more normal (length disjunctions) (length disjunctions + 1) lit
-          (omega arith)) it) old.state.clauses sound.in_use)
-          (clause_in_use normal (length disjunctions) any any_over)));
-      past =
-          past_then normal old.state.clauses new.state.clauses more none none
-          (past_more normal old.state.clauses disjunctions any sound.past
-          (All-left (IsEntailed normal more) old.state.clauses (clause ∷ [])
-          (subst (All (IsEntailed normal more)) added entailed)))
-          (given_last normal more old.state.clauses new.state.clauses clause none added
-          (may_give_selector normal disjunctions any))
-          entailed;
-    }
-
--- ---- a question
-
-pub ask_sound : (normal : Normal) (old new : Engine Theorised)
-    (disjunctions : List (List Lit)) (before after : Counted) → IsSound normal old disjunctions
-    → MeansTheSame (answer_sets old.theory.normal) (answer_sets new.theory.normal)
-    → IsRight (answer_sets new.theory.normal) new.theory.followed new.state new.defined
-    → new.dead ≡ false → new.defined ≡ old.defined
-    → new.state.trail.vars ≡ old.state.trail.vars
-    → HasAdded normal disjunctions old.state.clauses new.state.clauses before after
-    → All (All (IsInUse normal (length disjunctions))) new.state.clauses
-    → IsSound normal new disjunctions
-ask_sound normal old new disjunctions before after sound still right alive defined vars has in_use =
-    let same =
-    same_then (answer_sets normal) (answer_sets old.theory.normal)
-    (answer_sets new.theory.normal) sound.same still in
-    let are : new.defined ≡ defined_clauses normal disjunctions = defined ∙ sound.defined in
-    record {
-      same = same;
-      right = right;
-      alive = alive;
-      vars = vars ∙ sound.vars;
-      defined = are;
-      over = sound.over;
-      in_use = in_use;
-      past =
-          past_then normal old.state.clauses new.state.clauses disjunctions before after sound.past
-          has (sound_entailed normal new disjunctions same right are sound.over);
-    }
+    sound_with normal old new disjunctions more none none sound still right alive
+    (defined ∙ ap (λ all. all ++ clause ∷ []) sound.defined
+    ∙ sym (defined_push first disjunctions any)) vars
+    (All-push (All (IsOver (greatest_body_var normal))) disjunctions any sound.over any_over)
+    (λ entailed. past_more normal old.state.clauses disjunctions any sound.past
+    (All-left (IsEntailed normal more) old.state.clauses (clause ∷ [])
+    (subst (All (IsEntailed normal more)) added entailed)))
+    (given_last normal more old.state.clauses new.state.clauses clause none added
+    (may_give_selector normal disjunctions any))
+    (subst (λ used. All (All (IsInUse normal used)) new.state.clauses) (sym one_more)
+    (subst (All (All (IsInUse normal (length disjunctions + 1)))) (sym added)
+    (All-push (All (IsInUse normal (length disjunctions + 1))) old.state.clauses clause
+    (All-weaker (All (IsInUse normal (length disjunctions)))
+    (All (IsInUse normal (length disjunctions + 1)))
+    (λ it. All-weaker (IsInUse normal (length disjunctions))
+    (IsInUse normal (length disjunctions + 1))
+    (λ lit. in_use_more normal (length disjunctions) (length disjunctions + 1) lit
+    (omega arith)) it) old.state.clauses sound.in_use)
+    (clause_in_use normal (length disjunctions) any any_over))))
 
 -- ---- the beginning
 

@@ -12,6 +12,7 @@ use Rattle.std.proofs.lemmas.List.Elements.{All-contains, All-contains_itself, A
 use Rattle.std.proofs.lemmas.List.Elements.{Contains-push, Contains-push_cases}
 use Rattle.std.proofs.lemmas.List.Folds.{Any-from_list_any, list_any-from_Any}
 use Rattle.std.proofs.lemmas.Option.{get_or_from_slice_get, slice_get_within, same_Some}
+use Rattle.ground_program.specs.Meaning.{IsSetOver}
 use Rattle.clause_store.specs.declared.literal.Lit.{Lit}
 use Rattle.clause_store.specs.declared.literal.Var.{Var}
 use Rattle.clause_store.specs.Clause.{AreOver, HoldsIn, IsOver, IsTrueIn, Meets, is_negated}
@@ -22,21 +23,21 @@ use Rattle.item_list.proofs.ListLemmas.{All-left}
 use Rattle.normal_program.specs.declared.normal.Normal.{Normal}
 use Rattle.normal_program.specs.Normal.{extension, first_selector, greatest_body_var}
 use Rattle.normal_program.specs.Clauses.{AreChosen, negative}
-use Rattle.normal_program.specs.Models.{set_of}
+use Rattle.normal_program.specs.Models.{front_of, set_of}
 use Rattle.normal_program.proofs.lemmas.Base.TruthLemmas.{makes_true-negative, makes_true-positive}
 use Rattle.normal_program.proofs.lemmas.Base.TruthLemmas.{variable-positive}
 use Rattle.normal_program.proofs.lemmas.Entailed.ChoiceLemmas.{HoldsIn-front, length-extension}
 use Rattle.assumption_engine.specs.declared.engine.Engine.{Engine}
 use Rattle.assumption_engine.specs.declared.answer.Answer.{Answer}
 use Rattle.assumption_engine.specs.declared.answer.Answer.TheVariants.{Model, Core}
+use Rattle.assumption_engine.specs.declared.answer.Answer.TheVariants.{SpentInside}
 use Rattle.assumption_engine.specs.Answer.{IsCoreOf}
-use Rattle.assumption_engine.specs.Engine.{IsModelOf}
 use Rattle.assumption_engine.specs.Selector.{selector_clause}
 use Rattle.assumption_engine.specs.Sided.{positive}
 use Rattle.coherence_test.specs.declared.asked.Asked.{Asked}
 use Rattle.coherence_test.specs.declared.asked.Core.{Core as Told}
-use Rattle.coherence_test.specs.AnswerSets.{answer_sets, ExtendsAnswerSet, Theorised}
-use Rattle.coherence_test.specs.Asked.{Answers, IsCoreFor, MeetsCore}
+use Rattle.coherence_test.specs.AnswerSets.{answer_sets, Theorised}
+use Rattle.coherence_test.specs.Asked.{Answers, IsCoreFor, IsSpentFor, MeetsCore}
 use Rattle.coherence_test.specs.Selectors.{defined_clauses, defined_from}
 use Rattle.coherence_test.specs.Searching.{assumed_with, HasSelector, is_low, IsSelectorOf, Says}
 use Rattle.coherence_test.proofs.SelectorLemmas.{begins, chosen_model}
@@ -50,9 +51,10 @@ makes_true_front values more lit low =
     (get_or_append_left values more false (variable lit) low)
 
 -- a literal over atoms and bodies is true in an extension exactly where it is in what begins so
-module _ (normal : Normal) (values : List Bool) (is : ExtendsAnswerSet normal values) where
+module _ (normal : Normal) (values set : List Bool) (set_over : IsSetOver normal.atoms set)
+    (extends : front_of normal values ≡ extension normal set set) where
   abbrev whole : List Bool
-  whole = extension normal (set_of normal values) (set_of normal values)
+  whole = extension normal set set
 
   abbrev behind : List Bool
   behind = drop (normal.atoms + 1 + length normal.bodies) values
@@ -60,20 +62,18 @@ module _ (normal : Normal) (values : List Bool) (is : ExtendsAnswerSet normal va
   true_in_front : (lit : Lit) → IsOver (greatest_body_var normal) lit → IsTrueIn values lit
       → IsTrueIn whole lit
   true_in_front lit over true_lit =
-      let size = length-extension normal (set_of normal values) (set_of normal values)
-      is.answers.over in
+      let size = length-extension normal set set set_over in
       let last = over.last in
       sym (makes_true_front whole behind lit (omega (arith, last, size)))
-      ∙ ap (λ all. makes_true all lit) (begins normal values is) ∙ true_lit
+      ∙ ap (λ all. makes_true all lit) (begins normal values set extends) ∙ true_lit
 
   holds_in_front : (clause : List Lit) → All (IsOver (greatest_body_var normal)) clause
       → HoldsIn values clause → HoldsIn whole clause
   holds_in_front clause over holds =
-      let size = length-extension normal (set_of normal values) (set_of normal values)
-      is.answers.over in
+      let size = length-extension normal set set set_over in
       HoldsIn-front whole behind clause
       (λ k d within. let last = (over k d within).last in omega (arith, last, size))
-      (subst (λ all. HoldsIn all clause) (sym (begins normal values is)) holds)
+      (subst (λ all. HoldsIn all clause) (sym (begins normal values set extends)) holds)
 
 -- ---- selectors that are true
 
@@ -126,13 +126,13 @@ some_holds normal disjunctions assume (Some any) (Some var) values has true_lits
     (All-contains (IsTrueIn values) (assume ++ positive var.0 ∷ []) (positive var.0) true_lits
     (Contains-push assume (positive var.0)))
 
-some_in_front : (normal : Normal) (values : List Bool) → ExtendsAnswerSet normal values
+some_in_front : (normal : Normal) (values set : List Bool) → IsSetOver normal.atoms set
+    → front_of normal values ≡ extension normal set set
     → (any : Option (List Lit)) → IfSome any (All (IsOver (greatest_body_var normal)))
-    → IfSome any (HoldsIn values)
-    → IfSome any (HoldsIn (extension normal (set_of normal values) (set_of normal values)))
-some_in_front normal values is None over holds = tt
-some_in_front normal values is (Some any) over holds =
-    holds_in_front normal values is any over holds
+    → IfSome any (HoldsIn values) → IfSome any (HoldsIn (extension normal set set))
+some_in_front normal values set set_over extends None over holds = tt
+some_in_front normal values set set_over extends (Some any) over holds =
+    holds_in_front normal values set set_over extends any over holds
 
 -- the assumed literals without the selector
 assume_of : (P : Lit → Type 0) (assume : List Lit) (selector : Option Var)
@@ -140,27 +140,24 @@ assume_of : (P : Lit → Type 0) (assume : List Lit) (selector : Option Var)
 assume_of P assume None all = all
 assume_of P assume (Some var) all = All-left P assume (positive var.0 ∷ []) all
 
--- a model's set answers what was asked
-pub model_answers : (normal : Normal) (disjunctions : List (List Lit)) (asked : Asked)
-    (selector : Option Var) (values : List Bool)
-    → All (IsOver (greatest_body_var normal)) asked.assume
-    → IfSome asked.any (All (IsOver (greatest_body_var normal)))
-    → HasSelector normal disjunctions asked.any selector
-    → IsModelOf (answer_sets normal) (defined_clauses normal disjunctions) values
-    → All (IsTrueIn values) (assumed_with asked.assume selector)
-    → Answers normal asked (set_of normal values)
-model_answers normal disjunctions asked selector values over any_over has model true_lits =
-    record {
-      answers = model.model.answers;
-      assumed =
-          λ k d within.
-          true_in_front normal values model.model (get_or asked.assume k d) (over k d within)
-          (assume_of (IsTrueIn values) asked.assume selector true_lits k d within);
-      some =
-          some_in_front normal values model.model asked.any any_over
-          (some_holds normal disjunctions asked.assume asked.any selector values has true_lits
-          model.meets);
-    }
+-- a set whose extension an assignment begins with meets what was asked
+module _ (normal : Normal) (disjunctions : List (List Lit)) (asked : Asked)
+    (selector : Option Var) (over : All (IsOver (greatest_body_var normal)) asked.assume)
+    (any_over : IfSome asked.any (All (IsOver (greatest_body_var normal))))
+    (has : HasSelector normal disjunctions asked.any selector) (values set : List Bool)
+    (set_over : IsSetOver normal.atoms set)
+    (extends : front_of normal values ≡ extension normal set set)
+    (true_lits : All (IsTrueIn values) (assumed_with asked.assume selector))
+    (meets : Meets values (defined_clauses normal disjunctions)) where
+  assumed_true : All (IsTrueIn (extension normal set set)) asked.assume
+  assumed_true k d within =
+      true_in_front normal values set set_over extends (get_or asked.assume k d) (over k d within)
+      (assume_of (IsTrueIn values) asked.assume selector true_lits k d within)
+
+  some_true : IfSome asked.any (HoldsIn (extension normal set set))
+  some_true =
+      some_in_front normal values set set_over extends asked.any any_over
+      (some_holds normal disjunctions asked.assume asked.any selector values has true_lits meets)
 
 -- ---- cores
 
@@ -322,21 +319,48 @@ module _ (normal : Normal) (disjunctions : List (List Lit)) (asked : Asked)
 
 -- ---- answers
 
--- a model
-pub told_found : (normal : Normal) (engine : Engine Theorised) (disjunctions : List (List Lit))
-    (asked : Asked) (selector : Option Var) (answer : Answer) (set : List Bool)
-    → All (IsOver (greatest_body_var normal)) asked.assume
-    → IfSome asked.any (All (IsOver (greatest_body_var normal)))
-    → HasSelector normal disjunctions asked.any selector
-    → Says normal engine disjunctions (assumed_with asked.assume selector) answer
-    → answer ≡ Model → set ≡ set_of normal (values_of engine.state.trail)
-    → Answers normal asked set
-told_found normal engine disjunctions asked selector answer set over any_over has says is same =
-    let on =
-    (subst (Says normal engine disjunctions (assumed_with asked.assume selector)) is says).1 in
-    subst (Answers normal asked) (sym same)
-    (model_answers normal disjunctions asked selector (values_of engine.state.trail) over any_over
-    has on.model on.true_lits)
+module _ (normal : Normal) (engine : Engine Theorised) (disjunctions : List (List Lit))
+    (asked : Asked) (selector : Option Var) (answer : Answer)
+    (over : All (IsOver (greatest_body_var normal)) asked.assume)
+    (any_over : IfSome asked.any (All (IsOver (greatest_body_var normal))))
+    (has : HasSelector normal disjunctions asked.any selector)
+    (says : Says normal engine disjunctions (assumed_with asked.assume selector) answer) where
+  -- a model
+  pub told_found : (set : List Bool) → answer ≡ Model
+      → set ≡ set_of normal (values_of engine.state.trail) → Answers normal asked set
+  told_found set is same =
+      let on =
+      (subst (Says normal engine disjunctions (assumed_with asked.assume selector)) is says).1 in
+      let model = on.model.model in
+      let values = values_of engine.state.trail in
+      let here = set_of normal values in
+      subst (Answers normal asked) (sym same)
+      (record {
+        answers = model.answers;
+        assumed =
+            assumed_true normal disjunctions asked selector over any_over has values here
+            model.answers.over model.extends on.true_lits on.model.meets;
+        some =
+            some_true normal disjunctions asked selector over any_over has values here
+            model.answers.over model.extends on.true_lits on.model.meets;
+      })
+
+  -- a spent check
+  pub told_spent : (set : List Bool) (units : List (List Lit)) → answer ≡ SpentInside set units
+      → IsSpentFor normal asked set units
+  told_spent set units is =
+      let inside =
+      (subst (Says normal engine disjunctions (assumed_with asked.assume selector)) is says).1 in
+      let spent = inside.check.spent in
+      record {
+        within = spent.within;
+        assumed =
+            assumed_true normal disjunctions asked selector over any_over has inside.values set
+            spent.within.over spent.extends inside.true_lits inside.meets;
+        some =
+            some_true normal disjunctions asked selector over any_over has inside.values set
+            spent.within.over spent.extends inside.true_lits inside.meets;
+      }
 
 -- a core
 pub told_core : (normal : Normal) (engine : Engine Theorised) (disjunctions : List (List Lit))

@@ -1,11 +1,13 @@
 -- What a test asks, and what its answers say.
 use Rattle.std.specs.Prelude.{◌≡◌, ℕ, Bool, List, All, Contains, IfSome, IsSome, IsTrue, length}
 use Rattle.std.specs.Prelude.{⊤}
+use Rattle.clause_store.specs.declared.literal.Lit.{Lit}
 use Rattle.clause_store.specs.Clause.{HoldsIn, IsTrueIn}
 use Rattle.clause_store.specs.Counted.{Counted}
 use Rattle.normal_program.specs.declared.normal.Normal.{Normal}
 use Rattle.normal_program.specs.Normal.{IsAnswerSetN, extension}
 use Rattle.assumption_engine.specs.Answer.{IsBelow, IsSliceOver}
+use Rattle.coherence_test.specs.AnswerSets.{IsSpentWithin}
 use Rattle.coherence_test.specs.declared.asked.Asked.{Asked}
 use Rattle.coherence_test.specs.declared.asked.Core.{Core}
 use Rattle.coherence_test.specs.declared.asked.Tested.{Tested}
@@ -32,21 +34,29 @@ pub record IsCoreFor (normal : Normal) (asked : Asked) (core : Core) : Type 0 wh
   pub asks : IsTrue core.any → IsSome asked.any
   pub unmet : (set : List Bool) → ¬ MeetsCore normal asked core set
 
--- what each answer says. No test of an answer set is spent, as none is needed
+-- a set meets what is asked, and the test whether it is minimal is spent
+pub record IsSpentFor (normal : Normal) (asked : Asked) (set : List Bool)
+    (units : List (List Lit)) : Type 0 where
+  pub within : IsSpentWithin normal set units
+  pub assumed : All (IsTrueIn (extension normal set set)) asked.assume
+  pub some : IfSome asked.any (HoldsIn (extension normal set set))
+
+-- what each answer says
 abbrev pub IsTested : Normal → Asked → Tested → Type 0
 IsTested normal asked (Found set) = Answers normal asked set
 IsTested normal asked (Refuted core) = IsCoreFor normal asked core
 IsTested normal asked Spent = ⊤
-IsTested normal asked (SpentInside set units) = ⊥
+IsTested normal asked (SpentInside set units) = IsSpentFor normal asked set units
 IsTested normal asked Paused = ⊤
 IsTested normal asked NoMemory = ⊤
 
 -- how many clauses were counted where each answer comes but want of memory, `stop` being as many as
--- one call may
+-- one call may; and that a test inside a set is spent with as many units as the limit
 abbrev pub IsTestedAt : ℕ → Counted → Tested → Type 0
 IsTestedAt stop after (Found set) = IsBelow stop after
 IsTestedAt stop after (Refuted core) = IsBelow stop after
 IsTestedAt stop after Spent = length after.units ≡ after.limit
-IsTestedAt stop after (SpentInside set units) = ⊥
+IsTestedAt stop after (SpentInside set units) =
+    IsBelow stop after × (length units ≡ after.limit)
 IsTestedAt stop after Paused = IsSliceOver stop after
 IsTestedAt stop after NoMemory = ⊥

@@ -1,5 +1,6 @@
 pub mod AnswerSets
 pub mod Laws
+pub mod Looking
 pub mod Asked
 pub mod Selectors
 pub mod Testing

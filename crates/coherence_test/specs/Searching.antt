@@ -1,6 +1,6 @@
 -- The parts of a test. No public clause cites this module.
 use Rattle.std.specs.Prelude.{◌≡◌, ◌+◌, ℕ, List, [], ◌∷◌, ◌++◌, Some, None, Option, slice_get}
-use Rattle.std.specs.Prelude.{nat_le, Bool, Contains, ⊤}
+use Rattle.std.specs.Prelude.{nat_le, length, Bool, Contains, ⊤}
 use Rattle.clause_store.specs.declared.literal.Lit.{Lit}
 use Rattle.clause_store.specs.declared.literal.Var.{Var}
 use Rattle.clause_store.specs.declared.literal.Value.TheVariants.{No}
@@ -12,7 +12,10 @@ use Rattle.normal_program.specs.declared.normal.Normal.{Normal}
 use Rattle.normal_program.specs.Normal.{first_selector}
 use Rattle.assumption_engine.specs.declared.engine.Engine.{Engine}
 use Rattle.assumption_engine.specs.declared.answer.Answer.{Answer}
-use Rattle.assumption_engine.specs.Answer.{IsAnswer}
+use Rattle.assumption_engine.specs.declared.answer.Answer.TheVariants.{Model, Core, Spent}
+use Rattle.assumption_engine.specs.declared.answer.Answer.TheVariants.{SpentInside, Paused}
+use Rattle.assumption_engine.specs.declared.answer.Answer.TheVariants.{NoMemory}
+use Rattle.assumption_engine.specs.Answer.{IsAnswer, IsCountedRight}
 use Rattle.assumption_engine.specs.Sided.{positive}
 use Rattle.coherence_test.specs.AnswerSets.{answer_sets, Theorised}
 use Rattle.coherence_test.specs.Selectors.{defined_clauses}
@@ -65,3 +68,17 @@ pub record IsFalseAtZero (steps : List Step) (lit : Lit) : Type 0 where
 pub record IsRefusedAtZero (steps : List Step) (lits : List Lit) (lit : Lit) : Type 0 where
   pub among : Contains lits lit
   pub refused : IsFalseAtZero steps lit
+
+-- a spent check has as many units as the limit
+abbrev pub HasAsMany : ℕ → Answer → Type 0
+HasAsMany limit Model = ⊤
+HasAsMany limit (Core core) = ⊤
+HasAsMany limit Spent = ⊤
+HasAsMany limit (SpentInside set units) = length units ≡ limit
+HasAsMany limit Paused = ⊤
+HasAsMany limit NoMemory = ⊤
+
+-- how many clauses were counted where each answer of an engine comes, and that a check is spent with
+-- as many units as the limit
+abbrev pub IsAnsweredAt : ℕ → Counted → Answer → Type 0
+IsAnsweredAt stop after answer = IsCountedRight stop after answer × HasAsMany after.limit answer

@@ -15,7 +15,7 @@ use Rattle.assumption_engine.specs.declared.engine.Engine.{Engine}
 use Rattle.assumption_engine.specs.Engine.{IsRight}
 use Rattle.assumption_engine.specs.Theory.{MeansTheSame}
 use Rattle.coherence_test.specs.declared.asked.Asked.{Asked}
-use Rattle.coherence_test.specs.AnswerSets.{answer_sets, HasNoDisjunction, Theorised}
+use Rattle.coherence_test.specs.AnswerSets.{answer_sets, Theorised}
 use Rattle.coherence_test.specs.Selectors.{defined_clauses, IsInUse, MayGive}
 
 -- what contracts see of a tester: its normal form, its clauses, the disjunctions of the selectors
@@ -102,6 +102,5 @@ pub record IsSound (normal : Normal) (engine : Engine Theorised)
 pub record IsKept (normal : Normal) (engine : Engine Theorised) (disjunctions : List (List Lit))
     (dead : Bool) : Type 0 where
   pub is_normal : IsNormal normal
-  pub plain : HasNoDisjunction normal
   pub few : length disjunctions ≤ selectors normal
   pub sound : dead ≡ false → IsSound normal engine disjunctions

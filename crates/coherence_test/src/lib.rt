@@ -1,5 +1,5 @@
 //! Tests of what the answer sets of a normal form meet, and the theory behind them: weight bodies,
-//! and then founding.
+//! then founding, and whether a set is minimal.
 #![tactic(auto)]
 
 mod asked;
@@ -11,6 +11,9 @@ mod tester;
 mod theory;
 
 pub use asked::{Asked, Core, Tested};
-pub use laws::{founded_models_are_answer_sets, local_clauses_hold};
+pub use laws::{
+    founded_models_are_answer_sets, local_clauses_hold, minimal_models_are_answer_sets,
+    spent_within_is_spent,
+};
 pub use tester::Tester;
 pub use theory::AnswerSetTheory;

@@ -6,12 +6,11 @@ ghost use Rattle.clause_store.specs.Clause.{AreOver, HasNoVariableTwice, IsOver}
 ghost use Rattle.clause_store.specs.Counted.{Counted};
 ghost use Rattle.normal_program.specs.Normal.{first_selector, greatest_body_var};
 ghost use Rattle.normal_program.specs.Limit.{IsNormal};
-ghost use Rattle.assumption_engine.specs.Answer.{IsCountedRight};
 ghost use Rattle.assumption_engine.specs.Selector.{selector_clause};
 ghost use Rattle.coherence_test.specs.Asked.{IsTested, IsTestedAt};
 ghost use Rattle.coherence_test.specs.Selectors.{AreUsed, IsImport};
 ghost use Rattle.coherence_test.specs.Searching.{HasGiven, HasSelector, IsSelectorOf, Says};
-ghost use Rattle.coherence_test.specs.Searching.{assumed_with};
+ghost use Rattle.coherence_test.specs.Searching.{assumed_with, IsAnsweredAt};
 ghost use Rattle.coherence_test.specs.Testing.{HasAdded, HasCountedUnits, IsSound, MayAsk};
 ghost use Rattle.coherence_test.specs.Testing.{selectors, used_by};
 
@@ -200,7 +199,7 @@ impl<'a> Search<'a> {
         ensures says { result ≢ Answer.NoMemory → Says self.old.normal.now self.new.engine
             self.old.disjunctions (assumed_with asked.now.assume selector) result }
         ensures at { result ≢ Answer.NoMemory
-            → IsCountedRight (length budget.old.units + slice) budget.new result }
+            → IsAnsweredAt (length budget.old.units + slice) budget.new result }
         ensures disjunctions { self.new.disjunctions ≡ self.old.disjunctions }
         ensures normal { self.new.normal ≡ self.old.normal }
     {
@@ -235,7 +234,7 @@ impl<'a> Search<'a> {
         ensures says { result ≢ Answer.NoMemory → Says self.old.normal.now self.new.engine
             self.old.disjunctions assumed.now result }
         ensures at { result ≢ Answer.NoMemory
-            → IsCountedRight (length budget.old.units + slice) budget.new result }
+            → IsAnsweredAt (length budget.old.units + slice) budget.new result }
         ensures disjunctions { self.new.disjunctions ≡ self.old.disjunctions }
         ensures normal { self.new.normal ≡ self.old.normal }
     {
@@ -264,7 +263,7 @@ impl<'a> Search<'a> {
             self.now.disjunctions (assumed_with asked.now.assume selector) answer }
         ensures tested { IfOk result (IsTested self.now.normal.now asked.now) }
         ensures at { IfOk result (λ it. (stop : ℕ) (after : Counted)
-            → IsCountedRight stop after answer → IsTestedAt stop after it) }
+            → IsAnsweredAt stop after answer → IsTestedAt stop after it) }
         ensures some { OnOk result (answer ≢ Answer.NoMemory) }
     {
         match answer {

@@ -5,7 +5,6 @@ ghost use Rattle.std.specs.Prelude.{length};
 ghost use Rattle.normal_program.specs.Clauses.{base_clauses};
 ghost use Rattle.normal_program.specs.Limit.{IsNormal};
 ghost use Rattle.short_clauses.specs.Shareable.{IsShareable};
-ghost use Rattle.coherence_test.specs.AnswerSets.{HasNoDisjunction};
 ghost use Rattle.coherence_test.specs.Asked.{IsTested, IsTestedAt};
 ghost use Rattle.coherence_test.specs.Selectors.{AreUsed, IsImport};
 ghost use Rattle.coherence_test.specs.Sharing.{HasNoted};
@@ -53,10 +52,9 @@ impl<'a> Model for Tester<'a> {
 }
 
 impl<'a> Tester<'a> {
-    /// A tester with the base clauses of a normal form without disjunctive rules.
+    /// A tester with the base clauses of a normal form.
     pub fn open(alloc: Global, normal: &'a Normal) -> Result<Tester<'a>, NoMemory>
-        requires normal { IsNormal normal.now }
-        requires plain { HasNoDisjunction normal.now }
+        requires { IsNormal normal.now }
         ensures { IfOk result (λ it. it ≡ opened normal.now) }
     {
         let mut store = Store::open();
@@ -71,7 +69,6 @@ impl<'a> Tester<'a> {
         completed: &Store,
     ) -> Result<Tester<'a>, NoMemory>
         requires normal { IsNormal normal.now }
-        requires plain { HasNoDisjunction normal.now }
         requires completed { completed.now ≡ base_clauses normal.now }
         ensures { IfOk result (λ it. it ≡ opened normal.now) }
     {
@@ -104,7 +101,6 @@ impl<'a> Tester<'a> {
     /// A tester with the clauses of a completed store.
     fn over(alloc: Global, normal: &'a Normal, store: Store) -> Result<Tester<'a>, NoMemory>
         requires normal { IsNormal normal.now }
-        requires plain { HasNoDisjunction normal.now }
         requires completed { store ≡ base_clauses normal.now }
         ensures { IfOk result (λ it. it ≡ opened normal.now) }
     {

@@ -1,15 +1,24 @@
-// Weight bodies are asked first, founding when they are quiet.
-ghost use Rattle.std.specs.Prelude.{◌≡◌, ◌≤◌, [], IfOk, List};
+// Weight bodies are asked first, founding when they are quiet. Where both are at a total assignment,
+// and some rule is disjunctive, its atoms are tested for being minimal.
+ghost use Rattle.std.specs.Prelude.{◌≡◌, ◌≤◌, ◌↔◌, [], IfOk, IsTrue, List};
+ghost use Rattle.ground_program.specs.declared.program.Kind.TheVariants.{Disjunctive};
 ghost use Rattle.clause_store.specs.Clause.{Meets};
 ghost use Rattle.clause_store.specs.Standing.{AreFollowed, Followed, HasGoneBack};
 ghost use Rattle.clause_store.specs.Trail.{IsTotal, values_of};
+ghost use Rattle.normal_program.specs.Clauses.{base_clauses};
 ghost use Rattle.normal_program.specs.Limit.{IsNormal};
+ghost use Rattle.normal_program.specs.Normal.{greatest_body_var};
+ghost use Rattle.normal_program.specs.Spent.{IsDisjunctive};
 ghost use Rattle.assumption_engine.specs.Theory.{Meaning, MeansTheSame, IsGiven, IsChecked};
-ghost use Rattle.coherence_test.specs.AnswerSets.{HasNoDisjunction, answer_sets};
+ghost use Rattle.coherence_test.specs.AnswerSets.{answer_sets};
+ghost use Rattle.coherence_test.specs.Looking.{IsCandidate, IsFoundOn, IsLookedAt};
 
+use crate::telling::set_on;
 use assumption_engine::{Check, Theory};
-use clause_store::{Clause, Says, Trail};
+use clause_store::{Budget, Clause, Says, Trail};
+use ground_program::Kind;
 use item_list::NoMemory;
+use minimality_test::{Minimality, smaller};
 use normal_program::Normal;
 use std::alloc::Global;
 use std::marker::Model;
@@ -23,6 +32,7 @@ pub struct AnswerSetTheory<'a> {
     normal: &'a Normal,
     weights: Weights,
     unfounded: Unfounded,
+    disjunctive: bool,
 }
 
 impl<'a> Model for AnswerSetTheory<'a> {
@@ -32,23 +42,141 @@ impl<'a> Model for AnswerSetTheory<'a> {
 
     ghost view = { λ it. record { normal = it.normal.now; followed = it.weights.followed } };
 
-    ghost invariant = { λ it. AreOfOne it.normal.now it.weights it.unfounded };
+    ghost invariant = { λ it. AreOfOne it.normal.now it.weights it.unfounded it.disjunctive };
 }
 
 impl<'a> AnswerSetTheory<'a> {
     /// The theory of a normal form. No assignment is followed.
     pub fn open(alloc: Global, normal: &'a Normal) -> Result<AnswerSetTheory<'a>, NoMemory>
-        requires normal { IsNormal normal.now }
-        requires plain { HasNoDisjunction normal.now }
+        requires { IsNormal normal.now }
         ensures { IfOk result (λ it. it ≡ record { normal = normal.now; followed = [] }) }
     {
         let weights = Weights::open(alloc, normal)?;
         let unfounded = Unfounded::open(alloc, normal)?;
+        let disjunctive = has_disjunction(normal);
         Ok(AnswerSetTheory {
             normal,
             weights,
             unfounded,
+            disjunctive,
         })
+    }
+
+    /// A clause that a weight body gives or, where these are quiet, founding.
+    fn look(&mut self, alloc: Global, trail: &Trail, out: &mut Clause) -> Result<Says, NoMemory>
+        requires range { greatest_body_var self.old.normal ≤ trail.now.vars }
+        requires followed { AreFollowed trail.now.steps self.old.followed }
+        ensures says { IfOk result (IsLookedAt self.old.normal trail.now out.new) }
+        ensures followed { AreFollowed trail.now.steps self.new.followed }
+        ensures normal { self.new.normal ≡ self.old.normal }
+    {
+        if let Says::Clause = self.weights.propagate(alloc, self.normal, trail, out)? {
+            return Ok(Says::Clause);
+        }
+        match self.find_loop(alloc, trail, out)? {
+            Found::Loop => Ok(Says::Clause),
+            Found::Nothing => Ok(Says::Quiet),
+        }
+    }
+
+    /// A loop clause of one atom, or else of all that aren't founded. Where no rule is disjunctive
+    /// founding gives both.
+    fn find_loop(
+        &mut self,
+        alloc: Global,
+        trail: &Trail,
+        out: &mut Clause,
+    ) -> Result<Found, NoMemory>
+        requires { greatest_body_var self.old.normal ≤ trail.now.vars }
+        ensures found { IfOk result (IsFoundOn self.old.normal trail.now out.new) }
+        ensures same { self.new ≡ self.old }
+    {
+        if self.disjunctive {
+            if let Found::Loop = self.unfounded.find_single(alloc, self.normal, trail, out)? {
+                return Ok(Found::Loop);
+            }
+        }
+        self.unfounded.find(alloc, self.normal, trail, out)
+    }
+
+    /// Judges a total assignment. Where weight bodies and founding say nothing, only a disjunctive
+    /// rule leaves in doubt whether its atoms are minimal.
+    fn judge(
+        &mut self,
+        alloc: Global,
+        trail: &Trail,
+        out: &mut Clause,
+        limit: u32,
+    ) -> Result<Check, NoMemory>
+        requires range { greatest_body_var self.old.normal ≤ trail.now.vars }
+        requires followed { AreFollowed trail.now.steps self.old.followed }
+        requires total { IsTotal trail.now }
+        requires meets { Meets (values_of trail.now) (base_clauses self.old.normal) }
+        requires some { 1 ≤ limit }
+        ensures answer { IfOk result
+            (IsChecked (answer_sets self.old.normal) trail.now limit out.new) }
+        ensures followed { AreFollowed trail.now.steps self.new.followed }
+        ensures normal { self.new.normal ≡ self.old.normal }
+    {
+        trail.vouch();
+        match self.look(alloc, trail, out)? {
+            Says::Clause => Ok(Check::Clause),
+            Says::Quiet if self.disjunctive => self.judge_parts(alloc, trail, out, limit),
+            Says::Quiet => Ok(Check::Accept),
+        }
+    }
+
+    /// Looks for a smaller set that keeps the rules of the reduct. It gives a loop clause for the
+    /// atoms that it lacks.
+    fn judge_parts(
+        &mut self,
+        alloc: Global,
+        trail: &Trail,
+        out: &mut Clause,
+        limit: u32,
+    ) -> Result<Check, NoMemory>
+        requires candidate { IsCandidate self.old.normal trail.now }
+        requires disjunctive { IsDisjunctive self.old.normal }
+        requires some { 1 ≤ limit }
+        ensures answer { IfOk result
+            (IsChecked (answer_sets self.old.normal) trail.now limit out.new) }
+        ensures same { self.new ≡ self.old }
+    {
+        let set = set_on(alloc, trail, self.normal.atoms)?;
+        let mut budget = Budget::new(limit);
+        match smaller(alloc, self.normal, &set, &mut budget) {
+            Minimality::Minimal => Ok(Check::Accept),
+            Minimality::Smaller(part) => {
+                self.unfounded
+                    .deny_others(alloc, self.normal, trail, &part, out)?;
+                Ok(Check::Clause)
+            }
+            Minimality::Spent => Ok(Check::Spent {
+                set,
+                units: budget.into_units(),
+            }),
+            Minimality::NoMemory => Err(NoMemory),
+        }
+    }
+}
+
+/// Whether some rule is disjunctive.
+fn has_disjunction(normal: &Normal) -> bool
+    ensures { IsTrue result ↔ IsDisjunctive normal.now }
+{
+    normal
+        .rules
+        .as_slice()
+        .iter()
+        .any(|rule| is_disjunction(rule.kind))
+}
+
+fn is_disjunction(kind: Kind) -> bool
+    ensures { IsTrue result ↔ (kind ≡ Disjunctive) }
+{
+    match kind {
+        Kind::Basic | Kind::Constraint | Kind::Choice | Kind::Weight => false,
+        Kind::Disjunctive => true,
     }
 }
 
@@ -63,13 +191,7 @@ impl<'a> Theory for AnswerSetTheory<'a> {
         trail: &Trail,
         out: &mut Clause,
     ) -> Result<Says, NoMemory> {
-        if let Says::Clause = self.weights.propagate(alloc, self.normal, trail, out)? {
-            return Ok(Says::Clause);
-        }
-        match self.unfounded.find(alloc, self.normal, trail, out)? {
-            Found::Loop => Ok(Says::Clause),
-            Found::Nothing => Ok(Says::Quiet),
-        }
+        self.look(alloc, trail, out)
     }
 
     fn complete_check(
@@ -79,16 +201,9 @@ impl<'a> Theory for AnswerSetTheory<'a> {
         out: &mut Clause,
         limit: u32,
     ) -> Check {
-        let _ = limit;
-        trail.vouch();
-        match self.weights.propagate(alloc, self.normal, trail, out) {
-            Err(NoMemory) => Check::NoMemory,
-            Ok(Says::Clause) => Check::Clause,
-            Ok(Says::Quiet) => match self.unfounded.find(alloc, self.normal, trail, out) {
-                Err(NoMemory) => Check::NoMemory,
-                Ok(Found::Loop) => Check::Clause,
-                Ok(Found::Nothing) => Check::Accept,
-            },
+        match self.judge(alloc, trail, out, limit) {
+            Ok(check) => check,
+            Err(_) => Check::NoMemory,
         }
     }
 

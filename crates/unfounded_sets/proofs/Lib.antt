@@ -2,3 +2,4 @@ pub mod ValueLemmas
 pub mod FoundingLemmas
 pub mod WantedLemmas
 pub mod LoopLemmas
+pub mod SingleLemmas

@@ -9,7 +9,7 @@ use Rattle.std.proofs.lemmas.List.{get_or-set_same}
 use Rattle.std.proofs.lemmas.List.Folds.{list_any-from_Any}
 use Rattle.std.proofs.lemmas.Option.{slice_get-get_or}
 use Rattle.std.proofs.lemmas.List.Elements.{All-push, Contains-get_or, Contains-push}
-use Rattle.std.proofs.lemmas.List.Elements.{Contains-append_left}
+use Rattle.std.proofs.lemmas.List.Elements.{All-contains, Contains-append_left}
 use Rattle.std.proofs.lemmas.List.Quantifiers.{all_pairs_push}
 use Rattle.ground_program.specs.Meaning.{IsIn, has}
 use Rattle.clause_store.specs.declared.literal.Lit.{Lit}
@@ -37,11 +37,12 @@ use Rattle.normal_program.specs.Limit.{IsNormal}
 use Rattle.normal_program.specs.Range.{IsInRange}
 use Rattle.normal_program.proofs.lemmas.Base.CleanLemmas.{kept_from}
 use Rattle.normal_program.proofs.lemmas.Base.EntailedLemmas.{numbers_within}
-use Rattle.unfounded_sets.specs.Founding.{is_false, IsReached, Founds, IsClosed}
-use Rattle.unfounded_sets.specs.Founding.{founding_weight, counts_with}
+use Rattle.unfounded_sets.specs.Founding.{is_false, HasHeads, HasTrueHead, IsClosed, IsOpen}
+use Rattle.unfounded_sets.specs.Founding.{founding_weight, counts_with, KeepsOn, KeepsAllOn}
+use Rattle.unfounded_sets.specs.Founding.{LacksOne}
 use Rattle.unfounded_sets.specs.Found.{AreFounded, IsGiven, IsLoopWritten}
 use Rattle.unfounded_sets.specs.Rounds.{IsCovered, IsSettled, IsOutside, HasValued, IsBelow}
-use Rattle.unfounded_sets.specs.Wanted.{IsOpen, HasOpen, IsOpenPart, IsLoopPart, BlocksIn}
+use Rattle.unfounded_sets.specs.Wanted.{HasOpen, HasOther, IsOpenPart, IsLoopPart, BlocksIn}
 use Rattle.unfounded_sets.specs.Wanted.{IsAnswered, Wants, AreWritten, weight_left, weight_possible}
 use Rattle.unfounded_sets.specs.Wanted.{is_over, is_wanted}
 use Rattle.unfounded_sets.proofs.ValueLemmas.{false_if, not_false_if}
@@ -121,29 +122,44 @@ module _ (normal : Normal) (steps : List Step) (founded part : List Bool)
       (λ (it : Part). if counts_with steps founded it.lit then it.weight else 0) parts
       (λ k d within. counts_if (get_or parts k d) (atoms k d within))
 
-  -- a rule with a head in the part isn't reached
-  not_reached : (rule : NormalRule) → Founds normal steps founded rule
-      → Any (IsIn part) rule.heads → ¬ IsReached normal steps founded rule
-  not_reached rule founds (k, head, within, at, here) reached =
+  -- the set lacks a head in the part
+  lacks_head : (rule : NormalRule) → Any (IsIn part) rule.heads → ¬ HasHeads steps founded rule.heads
+  lacks_head rule (k, head, within, at, here) has_heads =
       let open_head = (is.just head).0 here in
       open_head.outside
       (subst (IsIn founded) at
-      (founds reached k head within
+      (has_heads k head within
       (subst (λ one. ¬ IsFalse steps (positive one)) (sym at) open_head.possible)))
+
+  -- a true head in the set is outside the part
+  other_head : (rule : NormalRule) → HasTrueHead steps founded rule → HasOther steps part rule
+  other_head rule (disjunctive, (k, head, within, at, true_in)) = (
+    head,
+    record {
+      disjunctive = disjunctive;
+      among = (k, within, at);
+      other = record {
+        denied = true_in.1;
+        outside = λ here. ((is.just head).0 here).outside true_in.0;
+      };
+    },
+  )
 
   blocked_if : (rule : NormalRule) (body : BodyOf) → slice_get normal.bodies rule.body ≡ Some body
       → All (λ (it : Part). IsAtomOf normal it.lit.atom) body.parts
-      → Founds normal steps founded rule → BlocksIn normal steps part rule
-  blocked_if rule body there atoms founds head =
+      → KeepsOn normal steps founded rule → BlocksIn normal steps part rule
+  blocked_if rule body there atoms keeps head =
       ⊎_elim
       (λ denied. inl (false_if steps (positive (body_var normal rule.body)) denied))
       (λ possible. ⊎_elim
       (λ low. inr
+      (inl
       (subst
       (λ o. IsSomeAnd o (λ (one : BodyOf). weight_possible steps part one.parts < one.bound))
-      (sym there) low))
-      (λ enough. absurd
-      (not_reached rule founds head
+      (sym there) low)))
+      (λ enough. ⊎_elim (λ has_heads. absurd (lacks_head rule head has_heads))
+      (λ other. inr (inr (other_head rule other)))
+      (keeps
       (record {
         possible = not_false_if steps (positive (body_var normal rule.body)) possible;
         enough =
@@ -156,9 +172,9 @@ module _ (normal : Normal) (steps : List Step) (founded part : List Bool)
       (cases_Bool (is_false steps (positive (body_var normal rule.body))))
 
   -- so the part is an unfounded set
-  pub loop_part : (atom : ℕ) (vars : ℕ) → IsCovered normal vars → IsClosed normal steps founded
+  pub loop_part : (atom : ℕ) (vars : ℕ) → IsCovered normal vars → KeepsAllOn normal steps founded
       → IsOpen normal steps founded atom → IsLoopPart normal steps part atom
-  loop_part atom vars covered closed opened = record {
+  loop_part atom vars covered keeps opened = record {
     places = is.places;
     here = (is.just atom).1 opened;
     is_atom = λ one here. ((is.just one).0 here).is_atom;
@@ -169,8 +185,13 @@ module _ (normal : Normal) (steps : List Step) (founded part : List Bool)
         let body : BodyOf = record { bound = 0; parts = [] } in
         blocked_if it (get_or normal.bodies it.body body)
         (slice_get-get_or normal.bodies it.body body number)
-        (covered.range.parts it.body body number) (closed k rule within);
+        (covered.range.parts it.body body number) (keeps k rule within);
   }
+
+-- a set to which founding adds nothing keeps the rules
+pub closed_keeps : (normal : Normal) (steps : List Step) (set : List Bool)
+    → IsClosed normal steps set → KeepsAllOn normal steps set
+closed_keeps normal steps set closed k rule within reached = inl (closed k rule within reached)
 
 -- ---- the loop clause
 
@@ -278,14 +299,14 @@ module _ (normal : Normal) (steps : List Step) (part wanted : List Bool) (lits c
   answers : (rule : NormalRule) → IsAnswered normal steps part wanted rule
       → (body : BodyOf) → slice_get normal.bodies rule.body ≡ Some body
       → All (λ (it : Part). IsAtomOf normal it.lit.atom) body.parts
-      → rule.body < length normal.bodies
+      → rule.body < length normal.bodies → All (IsAtomOf normal) rule.heads
       → AnswersFor normal atoms clause rule
-  answers rule (inl denied) body there parts number =
+  answers rule (inl denied) body there parts number heads =
       let var = variable-positive (body_var normal rule.body) in
       inl
       (stands (positive (body_var normal rule.body)) denied.0
       (subst (IsIn wanted) (sym var) denied.1) (omega (arith, var)) (omega (arith, var, number)))
-  answers rule (inr below) body there parts number =
+  answers rule (inr (inl below)) body there parts number heads =
       inr
       (inl
       (subst (λ o. IsSomeAnd o (λ (one : BodyOf). weight_beside atoms clause one < one.bound))
@@ -301,6 +322,20 @@ module _ (normal : Normal) (steps : List Step) (part wanted : List Bool) (lits c
             else it.weight) body.parts
             (λ k d within. beside_left (get_or body.parts k d) (parts k d within)),
       ))))
+  answers rule (inr (inr (head, other, here))) body there parts number heads =
+      let var = variable-negative head in
+      let is_atom =
+      All-contains (IsAtomOf normal) rule.heads head heads other.among in
+      inr
+      (inr (
+        other.disjunctive,
+        any_from (λ one. (¬ Contains atoms one) × Contains clause (negative one)) rule.heads head
+            other.among (
+              λ inside. other.other.outside (from_atoms head inside),
+              stands (negative head) other.other.denied (subst (IsIn wanted) (sym var) here)
+                  (omega (arith, var, is_atom.first)) (omega (arith, var, is_atom.last)),
+            ),
+      ))
 
   -- the clause is a loop clause where it has the negation of an atom of the part
   is_loop : (atom : ℕ) → IsLoopPart normal steps part atom → IsInRange normal
@@ -323,7 +358,7 @@ module _ (normal : Normal) (steps : List Step) (part wanted : List Bool) (lits c
           (head.0, head.1, head.2, head.3, from_atoms head.1 head.4))
           (get_or normal.bodies it.body none)
           (slice_get-get_or normal.bodies it.body none number)
-          (range.parts it.body none number) number;
+          (range.parts it.body none number) number (range.heads k rule within);
     },
   )
 
@@ -434,3 +469,9 @@ given_loop normal trail founded atom clause settled opened written = record {
 pub covers : (normal : Normal) (vars : ℕ) → IsNormal normal → greatest_body_var normal ≤ vars
     → IsCovered normal vars
 covers normal vars is over = record { range = IsNormal-in_range normal is; over = over }
+
+-- the set has no such atom, and lacks one
+pub none_lacks : (normal : Normal) (steps : List Step) (set : List Bool)
+    → HasOpen normal steps set → ¬ LacksOne normal steps set
+none_lacks normal steps set has (atom, opened) =
+    opened.outside (has atom opened.is_atom opened.possible)

@@ -22,7 +22,7 @@ use Rattle.normal_program.specs.Clauses.{positive, literal_of}
 use Rattle.item_list.proofs.ListLemmas.{sum_by-le_each}
 use Rattle.unfounded_sets.specs.Founding.{is_false}
 use Rattle.unfounded_sets.specs.Wanted.{is_over, is_wanted, weight_off, weight_possible}
-use Rattle.unfounded_sets.specs.Wanted.{weight_left}
+use Rattle.unfounded_sets.specs.Wanted.{weight_left, HasOther, IsOther}
 use Rattle.unfounded_sets.specs.Wanted.{BlocksIn, IsAnswered, Wants}
 use Rattle.unfounded_sets.specs.Wanted.{MarksFalse, PutsFalse, AreWritten}
 use Rattle.unfounded_sets.proofs.ValueLemmas.{false_if, same_false}
@@ -100,12 +100,15 @@ module _ (normal : Normal) (steps : List Step) (part : List Bool) where
       → IsAnswered normal steps part less rule → IsAnswered normal steps part more rule
   answered_more less more rule is (inl denied) =
       inl (denied.0, is (body_var normal rule.body) denied.1)
-  answered_more less more rule is (inr below) =
+  answered_more less more rule is (inr (inl below)) =
       inr
+      (inl
       (some_weaker (λ (body : BodyOf). weight_left steps part less body.parts < body.bound)
       (λ (body : BodyOf). weight_left steps part more body.parts < body.bound)
       (slice_get normal.bodies rule.body)
-      (λ body low. omega (arith, low, left_less steps part less more body.parts is)) below)
+      (λ body low. omega (arith, low, left_less steps part less more body.parts is)) below))
+  answered_more less more rule is (inr (inr (head, other, here))) =
+      inr (inr (head, other, is head here))
 
   abbrev Answers : List Bool → NormalRule → Type 0
   Answers wanted rule = Any (IsIn part) rule.heads → IsAnswered normal steps part wanted rule
@@ -130,9 +133,10 @@ module _ (normal : Normal) (steps : List Step) (part : List Bool) where
   wants_below rule body before here low =
       wants_one rule before
       (λ head. inr
+      (inl
       (subst
       (λ o. IsSomeAnd o (λ (one : BodyOf). weight_left steps part before one.parts < one.bound))
-      (sym here) (omega (arith, low, left_off steps part before body.parts))))
+      (sym here) (omega (arith, low, left_off steps part before body.parts)))))
 
   -- a false variable is wanted
   pub wants_var : (rule : NormalRule) (before : List Bool)
@@ -148,20 +152,32 @@ module _ (normal : Normal) (steps : List Step) (part : List Bool) where
         (denied, get_or-set_same before (body_var normal rule.body) true false within));
   }
 
+  -- another head that is true is wanted
+  pub wants_head : (rule : NormalRule) (before : List Bool) (head : ℕ)
+      → IsOther steps part rule head → head < length before
+      → Wants normal steps part (rule ∷ []) before (set before head true)
+  wants_head rule before head other within = record {
+    places = length-set before head true;
+    more = added_more before head within;
+    answered =
+        All-one (Answers (set before head true)) rule
+        (λ some. inr (inr (head, other, get_or-set_same before head true false within)));
+  }
+
   -- or else the false literals of the body are
   pub wants_false : (rule : NormalRule) (body : BodyOf) (before after : List Bool)
       → slice_get normal.bodies rule.body ≡ Some body
-      → ¬ IsFalse steps (positive (body_var normal rule.body)) → BlocksIn normal steps part rule
-      → MarksFalse steps body.parts before after
+      → ¬ IsFalse steps (positive (body_var normal rule.body)) → ¬ HasOther steps part rule
+      → BlocksIn normal steps part rule → MarksFalse steps body.parts before after
       → Wants normal steps part (rule ∷ []) before after
-  wants_false rule body before after here possible blocks marks = record {
+  wants_false rule body before after here possible none blocks marks = record {
     places = marks.places;
     more = marks.more;
     answered =
         All-one (Answers after) rule
         (λ head. ⊎_elim (λ denied. absurd (possible denied))
-        (λ below. inr
-        (some_there body here below))
+        (λ others. ⊎_elim (λ below. inr (inl (some_there body here below)))
+        (λ other. absurd (none other)) others)
         (blocks head));
   }
     where

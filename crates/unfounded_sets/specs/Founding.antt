@@ -1,8 +1,9 @@
 -- Which atoms are founded on a trail. Founding adds the heads of rules whose bodies can still hold
 -- and are reached by what is founded already.
-use Rattle.std.specs.Prelude.{◌≤◌, ℕ, Bool, true, false, not, if◌then◌else◌, List, All, sum_by}
-use Rattle.std.specs.Prelude.{slice_get, IsSomeAnd}
+use Rattle.std.specs.Prelude.{◌≡◌, ◌≤◌, ◌⊎◌, ℕ, Bool, true, false, not, if◌then◌else◌, List}
+use Rattle.std.specs.Prelude.{All, Any, sum_by, slice_get, IsSomeAnd}
 use Rattle.ground_program.specs.declared.program.AtomLit.{AtomLit}
+use Rattle.ground_program.specs.declared.program.Kind.TheVariants.{Disjunctive}
 use Rattle.ground_program.specs.Meaning.{has, IsIn}
 use Rattle.clause_store.specs.declared.literal.Lit.{Lit}
 use Rattle.clause_store.specs.declared.literal.Value.{Value}
@@ -14,7 +15,8 @@ use Rattle.normal_program.specs.declared.normal.Part.{Part}
 use Rattle.normal_program.specs.declared.normal.NormalRule.{NormalRule}
 use Rattle.normal_program.specs.declared.normal.Normal.{Normal}
 use Rattle.normal_program.specs.Normal.{body_var}
-use Rattle.normal_program.specs.Clauses.{positive, literal_of}
+use Rattle.normal_program.specs.Clauses.{positive, negative, literal_of}
+use Rattle.normal_program.specs.Loop.{IsAtomOf}
 
 -- whether a value is false
 abbrev pub is_no : Value → Bool
@@ -62,3 +64,31 @@ IsClosed normal steps set = All (Founds normal steps set) normal.rules
 -- the atom is in the least set to which founding adds nothing
 abbrev pub IsFounded : Normal → List Step → ℕ → Type 0
 IsFounded normal steps atom = (set : List Bool) → IsClosed normal steps set → IsIn set atom
+
+-- a disjunctive rule has a true head in the set
+abbrev pub HasTrueHead : List Step → List Bool → NormalRule → Type 0
+HasTrueHead steps set rule =
+    (rule.kind ≡ Disjunctive)
+    × Any (λ head. IsIn set head × IsFalse steps (negative head)) rule.heads
+
+-- where the rule is reached with the set, the set has its heads that aren't false or, of a
+-- disjunctive rule, a true one
+abbrev pub KeepsOn : Normal → List Step → List Bool → NormalRule → Type 0
+KeepsOn normal steps set rule =
+    IsReached normal steps set rule
+    → HasHeads steps set rule.heads ⊎ HasTrueHead steps set rule
+
+-- the set keeps each rule so
+abbrev pub KeepsAllOn : Normal → List Step → List Bool → Type 0
+KeepsAllOn normal steps set = All (KeepsOn normal steps set) normal.rules
+
+-- an atom that isn't false and isn't in the set
+pub record IsOpen (normal : Normal) (steps : List Step) (set : List Bool) (atom : ℕ) : Type 0
+  where
+    pub is_atom : IsAtomOf normal atom
+    pub possible : ¬ IsFalse steps (positive atom)
+    pub outside : ¬ IsIn set atom
+
+-- the set lacks such an atom
+abbrev pub LacksOne : Normal → List Step → List Bool → Type 0
+LacksOne normal steps set = (atom : ℕ) × IsOpen normal steps set atom

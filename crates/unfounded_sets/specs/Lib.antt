@@ -1,4 +1,5 @@
 pub mod Founding
 pub mod Found
+pub mod Single
 pub mod Rounds
 pub mod Wanted

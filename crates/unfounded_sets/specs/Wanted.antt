@@ -3,6 +3,7 @@ use Rattle.std.specs.Prelude.{◌≡◌, ◌≤◌, ◌<◌, ◌+◌, ◌⊎◌,
 use Rattle.std.specs.Prelude.{if◌then◌else◌, List, [], ◌∷◌, ◌++◌, All, Any, Contains, length}
 use Rattle.std.specs.Prelude.{sum_by, slice_get, IsSomeAnd}
 use Rattle.ground_program.specs.declared.program.AtomLit.{AtomLit}
+use Rattle.ground_program.specs.declared.program.Kind.TheVariants.{Disjunctive}
 use Rattle.ground_program.specs.Meaning.{has, IsIn, IsPart}
 use Rattle.clause_store.specs.declared.literal.Lit.{Lit}
 use Rattle.clause_store.specs.declared.step.Step.{Step}
@@ -12,9 +13,9 @@ use Rattle.normal_program.specs.declared.normal.Part.{Part}
 use Rattle.normal_program.specs.declared.normal.NormalRule.{NormalRule}
 use Rattle.normal_program.specs.declared.normal.Normal.{Normal}
 use Rattle.normal_program.specs.Normal.{body_var}
-use Rattle.normal_program.specs.Clauses.{positive, literal_of}
+use Rattle.normal_program.specs.Clauses.{positive, negative, literal_of}
 use Rattle.normal_program.specs.Loop.{IsAtomOf}
-use Rattle.unfounded_sets.specs.Founding.{is_false}
+use Rattle.unfounded_sets.specs.Founding.{is_false, IsOpen}
 use Rattle.unfounded_sets.specs.Rounds.{IsSettled}
 
 -- whether a literal is a positive one over the part
@@ -40,13 +41,29 @@ weight_left steps part wanted parts =
     sum_by (λ it. if is_wanted steps wanted it.lit || is_over part it.lit then 0 else it.weight)
     parts
 
--- a rule can't derive an atom of the part first: the variable of its body is false, or what is
--- possible outside the part stays below the bound
+-- a true atom outside the part
+pub record IsTrueOutside (steps : List Step) (part : List Bool) (atom : ℕ) : Type 0 where
+  pub denied : IsFalse steps (negative atom)
+  pub outside : ¬ IsIn part atom
+
+-- a head of a disjunctive rule is one
+pub record IsOther (steps : List Step) (part : List Bool) (rule : NormalRule) (head : ℕ) : Type 0
+  where
+    pub disjunctive : rule.kind ≡ Disjunctive
+    pub among : Contains rule.heads head
+    pub other : IsTrueOutside steps part head
+
+abbrev pub HasOther : List Step → List Bool → NormalRule → Type 0
+HasOther steps part rule = (head : ℕ) × IsOther steps part rule head
+
+-- a rule can't derive an atom of the part first: the variable of its body is false, what is
+-- possible outside the part stays below the bound, or it is disjunctive and another head is true
 abbrev pub IsBlocked : Normal → List Step → List Bool → NormalRule → Type 0
 IsBlocked normal steps part rule =
     IsFalse steps (positive (body_var normal rule.body))
-    ⊎ IsSomeAnd (slice_get normal.bodies rule.body)
+    ⊎ (IsSomeAnd (slice_get normal.bodies rule.body)
     (λ body. weight_possible steps part body.parts < body.bound)
+    ⊎ HasOther steps part rule)
 
 -- where a rule has a head in the part it is blocked
 abbrev pub BlocksIn : Normal → List Step → List Bool → NormalRule → Type 0
@@ -60,13 +77,6 @@ pub record IsLoopPart (normal : Normal) (steps : List Step) (part : List Bool) (
   pub is_atom : (one : ℕ) → IsIn part one → IsAtomOf normal one
   pub possible : (one : ℕ) → IsIn part one → ¬ IsFalse steps (positive one)
   pub blocked : All (BlocksIn normal steps part) normal.rules
-
--- an atom that isn't false and isn't in the set
-pub record IsOpen (normal : Normal) (steps : List Step) (founded : List Bool) (atom : ℕ) :
-    Type 0 where
-  pub is_atom : IsAtomOf normal atom
-  pub possible : ¬ IsFalse steps (positive atom)
-  pub outside : ¬ IsIn founded atom
 
 -- each atom that isn't false is in the set
 abbrev pub HasOpen : Normal → List Step → List Bool → Type 0
@@ -89,8 +99,9 @@ pub record IsOpenPart (normal : Normal) (steps : List Step) (founded part : List
 abbrev pub IsAnswered : Normal → List Step → List Bool → List Bool → NormalRule → Type 0
 IsAnswered normal steps part wanted rule =
     (IsFalse steps (positive (body_var normal rule.body)) × IsIn wanted (body_var normal rule.body))
-    ⊎ IsSomeAnd (slice_get normal.bodies rule.body)
+    ⊎ (IsSomeAnd (slice_get normal.bodies rule.body)
     (λ body. weight_left steps part wanted body.parts < body.bound)
+    ⊎ ((head : ℕ) × IsOther steps part rule head × IsIn wanted head))
 
 -- and for each rule with a head in the part
 abbrev pub AreAnswered : Normal → List Step → List Bool → List Bool → List NormalRule → Type 0

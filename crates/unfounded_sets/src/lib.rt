@@ -5,6 +5,7 @@
 mod founding;
 mod hints;
 mod loops;
+mod single;
 mod tables;
 mod unfounded;
 mod values;

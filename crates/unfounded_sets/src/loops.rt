@@ -1,18 +1,24 @@
 // The loop clause of an unfounded set. The false literals that it wants are marked by their
 // variables and then written in order, so that none is written twice.
 ghost use Rattle.std.specs.Prelude.{◌≡◌, ◌≤◌, ◌<◌, ◌+◌, ◌↔◌, [], ◌∷◌, All, Any, IsTrue, length};
-ghost use Rattle.std.specs.Prelude.{IfOk};
+ghost use Rattle.std.specs.Prelude.{Contains, IfNone, IfOk, IfSome};
 ghost use Rattle.ground_program.specs.Meaning.{IsIn};
+ghost use Rattle.normal_program.specs.Loop.{IsAtomOf};
 ghost use Rattle.normal_program.specs.Normal.{greatest_body_var};
+ghost use Rattle.unfounded_sets.specs.Founding.{IsOpen};
 ghost use Rattle.unfounded_sets.specs.Rounds.{IsCovered, HasAtoms, IsRuleIn};
-ghost use Rattle.unfounded_sets.specs.Wanted.{IsOpen, IsOpenPart, BlocksIn, weight_off};
+ghost use Rattle.unfounded_sets.specs.Wanted.{IsOpenPart, BlocksIn, weight_off};
+ghost use Rattle.unfounded_sets.specs.Wanted.{HasOther, IsOther, IsTrueOutside};
 ghost use Rattle.unfounded_sets.specs.Wanted.{Wants, MarksFalse, AreWritten, PutsFalse};
 ghost use Rattle.unfounded_sets.specs.Wanted.{IsLoopPart};
 ghost use Rattle.unfounded_sets.specs.Found.{IsLoopWritten};
 
-use crate::values::{false_literal, is_false_atom, is_false_body, is_false_part, is_over, outside};
+use crate::tables::clear;
+use crate::values::{
+    false_literal, is_false, is_false_atom, is_false_body, is_false_part, is_over,
+};
 use clause_store::{Clause, Trail, Value, Var};
-use ground_program::{Set, has_atom};
+use ground_program::{Kind, Set, has_atom};
 use item_list::NoMemory;
 use normal_program::{BodyOf, Normal, NormalRule};
 use std::alloc::Global;
@@ -50,7 +56,8 @@ pub fn mark_answers(normal: &Normal, trail: &Trail, part: &Set, wanted: &mut Set
 }
 
 /// Marks what a rule needs: nothing where literals over the part hold it below its bound, its
-/// body's variable where that is false, or else the false literals of its body.
+/// body's variable where that is false, another head where it is disjunctive and that is true, or
+/// else the false literals of its body.
 fn mark_answer(normal: &Normal, trail: &Trail, rule: &NormalRule, part: &[bool], wanted: &mut Set)
     requires covered { IsCovered normal.now trail.now.vars }
     requires rule { IsRuleIn normal.now rule.now }
@@ -65,9 +72,50 @@ fn mark_answer(normal: &Normal, trail: &Trail, rule: &NormalRule, part: &[bool],
     if is_false_body(normal, trail, rule) {
         let var = normal.body_var(rule.body);
         wanted.set(var.0 as usize, true);
+    } else if let Some(head) = other_head(normal, trail, rule, part) {
+        wanted.set(head as usize, true);
     } else {
         mark_false(normal, trail, body, wanted);
     }
+}
+
+/// A true head outside the part, of a disjunctive rule.
+pub fn other_head(normal: &Normal, trail: &Trail, rule: &NormalRule, part: &[bool]) -> Option<u32>
+    requires covered { IsCovered normal.now trail.now.vars }
+    requires rule { IsRuleIn normal.now rule.now }
+    ensures none { IfNone result (¬ HasOther trail.now.steps part.now rule.now) }
+    ensures some { IfSome result (IsOther trail.now.steps part.now rule.now) }
+{
+    match rule.kind {
+        Kind::Basic | Kind::Constraint | Kind::Choice | Kind::Weight => None,
+        Kind::Disjunctive => true_outside(normal, trail, rule.heads.as_slice(), part),
+    }
+}
+
+/// The first of these atoms that is true and outside the part.
+fn true_outside(normal: &Normal, trail: &Trail, atoms: &[u32], part: &[bool]) -> Option<u32>
+    requires covered { IsCovered normal.now trail.now.vars }
+    requires atoms { All (IsAtomOf normal.now) atoms.now }
+    ensures none { IfNone result
+        (All (λ atom. ¬ IsTrueOutside trail.now.steps part.now atom) atoms.now) }
+    ensures among { IfSome result (Contains atoms.now) }
+    ensures some { IfSome result (IsTrueOutside trail.now.steps part.now) }
+{
+    for atom in atoms {
+        if is_true_outside(normal, trail, *atom, part) {
+            return Some(*atom);
+        }
+    }
+    None
+}
+
+fn is_true_outside(normal: &Normal, trail: &Trail, atom: u32, part: &[bool]) -> bool
+    requires covered { IsCovered normal.now trail.now.vars }
+    requires is_atom { IsAtomOf normal.now atom }
+    ensures { IsTrue result ↔ IsTrueOutside trail.now.steps part.now atom }
+{
+    let _ = normal;
+    is_false(trail, Var(atom).negative()) && !has_atom(part, atom)
 }
 
 fn has_head(rule: &NormalRule, part: &[bool]) -> bool
@@ -121,6 +169,7 @@ pub fn write_loop(
     ensures written { IfOk result (λ _. IsLoopWritten normal.now trail.now out.new) }
     ensures places { length wanted.new ≡ length wanted.old }
 {
+    clear(wanted);
     wanted.set(atom as usize, true);
     mark_answers(normal, trail, part, wanted);
     write_wanted(alloc, trail, wanted, out)?;

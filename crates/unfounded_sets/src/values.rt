@@ -4,9 +4,9 @@ ghost use Rattle.clause_store.specs.Clause.{IsOver};
 ghost use Rattle.normal_program.specs.Clauses.{positive, literal_of};
 ghost use Rattle.normal_program.specs.Normal.{body_var};
 ghost use Rattle.normal_program.specs.Loop.{IsAtomOf};
-ghost use Rattle.unfounded_sets.specs.Founding.{is_no, is_false, counts_with};
+ghost use Rattle.unfounded_sets.specs.Founding.{is_no, is_false, counts_with, IsOpen};
 ghost use Rattle.unfounded_sets.specs.Rounds.{IsCovered, IsRuleIn, HasValued, IsOutside};
-ghost use Rattle.unfounded_sets.specs.Wanted.{is_over, IsFalseOf, HasNoFalse, IsOpen, HasOpen};
+ghost use Rattle.unfounded_sets.specs.Wanted.{is_over, IsFalseOf, HasNoFalse, HasOpen};
 
 use clause_store::{Lit, Trail, Value, Var};
 use ground_program::{AtomLit, Set, has_atom};

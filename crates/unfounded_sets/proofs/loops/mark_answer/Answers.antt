@@ -1,5 +1,6 @@
-use Rattle.std.proofs.Common.{◌≡◌, false, rules, subst, All}
+use Rattle.std.proofs.Common.{◌≡◌, false, rules, subst, All, arith}
 use Rattle.std.proofs.lemmas.Bool.{iff_false}
+use Rattle.std.proofs.lemmas.List.Elements.{All-contains}
 use Rattle.std.proofs.lemmas.Option.{get_or_from_slice_get}
 use Rattle.normal_program.specs.declared.normal.BodyOf.{BodyOf}
 use Rattle.normal_program.specs.Normal.{body_var}
@@ -8,6 +9,7 @@ use Rattle.normal_program.specs.Loop.{IsAtomOf}
 use Rattle.unfounded_sets.specs.Founding.{is_false}
 use Rattle.unfounded_sets.proofs.ValueLemmas.{not_false_if}
 use Rattle.unfounded_sets.proofs.WantedLemmas.{wants_no_head, wants_below, wants_false}
+use Rattle.unfounded_sets.proofs.WantedLemmas.{wants_head}
 use Rattle.unfounded_sets.proofs.loops.mark_answer.Goals as goal
 use Rattle.unfounded_sets.proofs.loops.mark_answer.Goals.{
   then-not-has_head-via-then-not-has_head,
@@ -37,10 +39,20 @@ mark_false-requires-clause-atoms c =
     (c.requires.covered.range.parts c.args.rule.now.body c.get-body.result.now
     c.requires.rule.number)
 
-pub returns-else-is_false_body : goal.returns-else-is_false_body
-returns-else-is_false_body c =
+pub returns-in-Some : goal.returns-in-Some
+returns-in-Some c =
+    let is_atom =
+    All-contains (IsAtomOf c.args.normal.now) c.args.rule.now.heads c.in-Some.head
+    c.requires.rule.heads c.in-Some.ensures.some.among in
+    rw c.set-in-Some.ensures
+    (wants_head c.args.normal.now c.args.trail.now.steps c.args.part.now c.args.rule.now
+    c.args.wanted.now c.in-Some.head c.in-Some.ensures.some
+    (omega (arith, c.requires.places, is_atom.last)))
+
+pub returns-in_default : goal.returns-in_default
+returns-in_default c =
     let lit = positive (body_var c.args.normal.now c.args.rule.now.body) in
     let out : is_false c.args.trail.now.steps lit ≡ false = search rules in
     wants_false c.args.normal.now c.args.trail.now.steps c.args.part.now c.args.rule.now
     c.get-body.result.now c.args.wanted.now c.mark_false.new.wanted c.get-body.ensures
-    (not_false_if c.args.trail.now.steps lit out) c.requires.blocked c.mark_false.ensures
+    (not_false_if c.args.trail.now.steps lit out) c.in_default.ensures.none c.requires.blocked c.mark_false.ensures

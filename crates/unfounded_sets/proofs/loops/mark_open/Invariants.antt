@@ -1,7 +1,7 @@
 use Rattle.std.proofs.Common.{◌≡◌, ◌<◌, ◌+◌, ℕ, length}
 use Rattle.std.specs.Prelude.{◌↔◌}
 use Rattle.ground_program.specs.Meaning.{IsIn}
-use Rattle.unfounded_sets.specs.Wanted.{IsOpen}
+use Rattle.unfounded_sets.specs.Founding.{IsOpen}
 use Rattle.unfounded_sets.proofs.loops.mark_open.Given as goal
 
 abbrev pub invariant-loop-atom : goal.invariant-loop-atom

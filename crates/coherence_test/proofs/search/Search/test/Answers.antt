@@ -2,7 +2,7 @@ use Rattle.std.proofs.Common.{◌+◌, ap, arith, length, subst, sym}
 use Rattle.std.specs.Prelude.{All}
 use Rattle.clause_store.specs.Clause.{IsOver}
 use Rattle.normal_program.specs.Normal.{greatest_body_var}
-use Rattle.coherence_test.specs.Searching.{assumed_with}
+use Rattle.coherence_test.specs.Searching.{assumed_with, Says}
 use Rattle.coherence_test.specs.Testing.{HasCountedUnits, used_by}
 use Rattle.coherence_test.proofs.TestLemmas.{assumed_over, test_added, test_counted}
 use Rattle.coherence_test.proofs.search.Search.test.Goals as goal
@@ -11,6 +11,18 @@ pub told-requires-clause-vars : goal.told-requires-clause-vars
 told-requires-clause-vars c not =
     let vars = (c.ask_with-answer.ensures.sound not).vars in
     omega (arith, vars)
+
+pub told-requires-clause-says : goal.told-requires-clause-says
+told-requires-clause-says c not =
+    let mid = c.select.new.self in
+    let new = c.ask_with-answer.new.self in
+    let lits = assumed_with c.args.asked.now.assume c.in_ok-selector.selector in
+    subst
+    (λ normal. Says normal.now new.engine new.disjunctions lits c.ask_with-answer.result)
+    (sym c.ask_with-answer.ensures.normal)
+    (subst
+    (λ disjunctions. Says mid.normal.now new.engine disjunctions lits c.ask_with-answer.result)
+    (sym c.ask_with-answer.ensures.disjunctions) (c.ask_with-answer.ensures.says not))
 
 pub returns-clause-added : goal.returns-clause-added
 returns-clause-added c =

@@ -4,17 +4,26 @@ use Rattle.clause_store.specs.Clause.{variable}
 use Rattle.clause_store.specs.Trail.{values_of}
 use Rattle.normal_program.specs.Normal.{greatest_body_var}
 use Rattle.coherence_test.specs.Searching.{is_low}
-use Rattle.coherence_test.proofs.TellLemmas.{told_core, told_found}
+use Rattle.coherence_test.proofs.TellLemmas.{told_core, told_found, told_spent}
 use Rattle.coherence_test.proofs.search.Search.told.Goals as goal
 
 pub returns-in_ok-set-in-Model-clause-tested : goal.returns-in_ok-set-in-Model-clause-tested
 returns-in_ok-set-in-Model-clause-tested c =
     let it = c.args.self.now in
     told_found it.normal.now it.engine it.disjunctions c.args.asked.now c.args.selector
-    c.args.answer c.in_ok-set-in-Model.set c.requires.over c.requires.any_over c.requires.selector
-    (c.requires.says (λ is. let e = sym c.in-Model.is ∙ is in cc)) c.in-Model.is
+    c.args.answer c.requires.over c.requires.any_over c.requires.selector
+    (c.requires.says (λ is. let e = sym c.in-Model.is ∙ is in cc)) c.in_ok-set-in-Model.set
+    c.in-Model.is
     (c.in_ok-set-in-Model.ensures
     ∙ ap (λ trail. take (it.normal.now.atoms + 1) (values_of trail)) c.trail.ensures)
+
+pub returns-in-SpentInside-clause-tested : goal.returns-in-SpentInside-clause-tested
+returns-in-SpentInside-clause-tested c =
+    let it = c.args.self.now in
+    told_spent it.normal.now it.engine it.disjunctions c.args.asked.now c.args.selector
+    c.args.answer c.requires.over c.requires.any_over c.requires.selector
+    (c.requires.says (λ is. let e = sym c.in-SpentInside.is ∙ is in cc)) c.in-SpentInside.set
+    c.in-SpentInside.units c.in-SpentInside.is
 
 pub returns-in_ok-core_of-in-Core-clause-tested : goal.returns-in_ok-core_of-in-Core-clause-tested
 returns-in_ok-core_of-in-Core-clause-tested c =

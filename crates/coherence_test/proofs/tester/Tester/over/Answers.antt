@@ -34,7 +34,6 @@ invariant_of-result c =
       subst (λ disjunctions. IsKept normal engine disjunctions false) (sym c.open-3.ensures)
           (record {
             is_normal = c.requires.normal;
-            plain = c.requires.plain;
             few = omega arith;
             sound =
                 λ alive.

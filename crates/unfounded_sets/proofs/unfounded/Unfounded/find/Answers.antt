@@ -1,21 +1,11 @@
-use Rattle.unfounded_sets.proofs.LoopLemmas.{covers, loop_part}
+use Rattle.unfounded_sets.proofs.LoopLemmas.{closed_keeps, covers, loop_part}
 use Rattle.unfounded_sets.proofs.unfounded.Unfounded.find.Goals as goal
-
-pub unfounded_atom-requires-clause-covered : goal.unfounded_atom-requires-clause-covered
-unfounded_atom-requires-clause-covered c =
-    covers c.args.normal.now c.args.trail.now.vars c.requires.normal c.requires.over
-
-pub mark_open-requires-clause-covered : goal.mark_open-requires-clause-covered
-mark_open-requires-clause-covered c =
-    covers c.args.normal.now c.args.trail.now.vars c.requires.normal c.requires.over
-
-pub write_loop-requires-clause-covered : goal.write_loop-requires-clause-covered
-write_loop-requires-clause-covered c =
-    covers c.args.normal.now c.args.trail.now.vars c.requires.normal c.requires.over
 
 pub write_loop-requires-clause-part : goal.write_loop-requires-clause-part
 write_loop-requires-clause-part c =
     loop_part c.args.normal.now c.args.trail.now.steps c.unfounded_atom.new.founded
     c.mark_open.new.part c.mark_open.ensures c.in-Some.atom c.args.trail.now.vars
     (covers c.args.normal.now c.args.trail.now.vars c.requires.normal c.requires.over)
-    c.in-Some.ensures.answer.settled.closed c.in-Some.ensures.answer.left
+    (closed_keeps c.args.normal.now c.args.trail.now.steps c.unfounded_atom.new.founded
+    c.in-Some.ensures.answer.settled.closed)
+    c.in-Some.ensures.answer.left

@@ -1,0 +1,9 @@
+use Rattle.unfounded_sets.proofs.LoopLemmas.{covers, loop_part}
+use Rattle.unfounded_sets.proofs.unfounded.Unfounded.deny_others.Goals as goal
+
+pub write_loop-requires-clause-part : goal.write_loop-requires-clause-part
+write_loop-requires-clause-part c =
+    loop_part c.args.normal.now c.args.trail.now.steps c.args.set.now c.mark_open.new.part
+    c.mark_open.ensures c.in-Some.atom c.args.trail.now.vars
+    (covers c.args.normal.now c.args.trail.now.vars c.requires.normal c.requires.over)
+    c.requires.keeps c.in-Some.ensures
