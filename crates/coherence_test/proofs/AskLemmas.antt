@@ -179,38 +179,3 @@ asked_counted normal theory total used disjunctions clauses defined assumed befo
           has.units
           has.sided;
     }
-
--- ---- what was answered
-
--- it says the same of a theory that means the same
-pub answer_back : (one two : Meaning) (defined : List (List Lit)) (assumed : List Lit) (limit : ℕ)
-    (trail : Assigned) (answer : Answer) → MeansTheSame one two
-    → IsAnswer two defined assumed limit trail answer
-    → IsAnswer one defined assumed limit trail answer
-answer_back one two defined assumed limit trail Model same is =
-    record {
-      total = is.total;
-      model = model_back one two defined (values_of trail) same is.model;
-      true_lits = is.true_lits;
-    }
-answer_back one two defined assumed limit trail (Core core) same is =
-    record {
-      among = is.among;
-      unmet =
-          λ values model true_lits.
-          is.unmet values (model_same one two defined values same model) true_lits;
-    }
-answer_back one two defined assumed limit trail Spent same is = tt
-answer_back one two defined assumed limit trail (SpentInside set units) same is =
-    record {
-      values = is.values;
-      check =
-          record {
-            spent = (same.is_spent is.values set units).1 is.check.spent;
-            as_many = is.check.as_many;
-          };
-      meets = is.meets;
-      true_lits = is.true_lits;
-    }
-answer_back one two defined assumed limit trail Paused same is = tt
-answer_back one two defined assumed limit trail NoMemory same is = tt

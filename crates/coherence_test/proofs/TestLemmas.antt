@@ -59,7 +59,7 @@ test_added old mid used disjunctions one two three before after is same given as
     (subst (λ it. HasAdded it used two three before after) is asked))
 
 -- what was counted beside more clauses was counted beside fewer
-pub test_counted : (old mid : Normal) (used disjunctions one two : List (List Lit)) (count : ℕ)
+test_counted : (old mid : Normal) (used disjunctions one two : List (List Lit)) (count : ℕ)
     (before after : Counted) → mid ≡ old → disjunctions ≡ used → HasGiven old used one two
     → HasCountedUnits mid used two count before after
     → HasCountedUnits old disjunctions one count before after
@@ -80,7 +80,7 @@ test_counted old mid used disjunctions one two count before after is same given 
     })
 
 -- what is assumed is over atoms, bodies and, where there is a disjunction, the selectors in use
-pub assumed_over : (normal : Normal) (disjunctions : List (List Lit)) (assume : List Lit)
+assumed_over : (normal : Normal) (disjunctions : List (List Lit)) (assume : List Lit)
     (any : Option (List Lit)) (selector : Option Var) → HasSelector normal disjunctions any selector
     → All (IsOver (greatest_body_var normal)) assume
     → All (IsOver (greatest_body_var normal + used_by any disjunctions))
@@ -105,3 +105,22 @@ assumed_over normal disjunctions assume (Some any) (Some var) has over =
       first = omega (arith, is, place);
       last = omega (arith, is, place, within);
     })
+
+-- what a test counted, by what its question counted beside the clauses with the selector's
+pub test_counts : (old mid : Normal) (used disjunctions one two : List (List Lit))
+    (assume : List Lit) (any : Option (List Lit)) (selector : Option Var) (before after : Counted)
+    → mid ≡ old → disjunctions ≡ used → HasGiven old used one two
+    → HasSelector old used any selector → All (IsOver (greatest_body_var old)) assume
+    → ((count : ℕ)
+    → All (IsOver (greatest_body_var mid + count)) (assumed_with assume selector)
+    → HasCountedUnits mid used two count before after)
+    → HasCountedUnits old disjunctions one (used_by any disjunctions) before after
+test_counts old mid used disjunctions one two assume any selector before after is same given has
+    over counted =
+    let over_all = assumed_over old used assume any selector has over in
+    subst
+    (λ all. HasCountedUnits old disjunctions one (used_by any all) before after) (sym same)
+    (test_counted old mid used disjunctions one two (used_by any used) before after is same given
+    (counted (used_by any used)
+    (subst (λ normal. All (IsOver (greatest_body_var normal + used_by any used))
+    (assumed_with assume selector)) (sym is) over_all)))

@@ -2,7 +2,8 @@ use Rattle.std.proofs.Common.{length, subst}
 use Rattle.assumption_engine.specs.Answer.{IsAnswer}
 use Rattle.coherence_test.specs.AnswerSets.{answer_sets}
 use Rattle.coherence_test.proofs.SoundLemmas.{ask_sound}
-use Rattle.coherence_test.proofs.AskLemmas.{answer_back, asked_added, asked_counted, asked_in_use}
+use Rattle.assumption_engine.proofs.TurnLemmas.{answer_same}
+use Rattle.coherence_test.proofs.AskLemmas.{asked_added, asked_counted, asked_in_use}
 use Rattle.coherence_test.proofs.search.Search.ask.Goals as goal
 
 pub returns-clause-sound : goal.returns-clause-sound
@@ -45,7 +46,7 @@ returns-clause-says c not =
           IsAnswer (answer_sets old.normal.now) defined c.args.assumed.now c.ask.new.budget.limit
           c.ask.new.self.state.trail c.ask.result)
           c.requires.sound.defined
-          (answer_back (answer_sets old.normal.now) (answer_sets old.engine.theory.normal)
+          (answer_same (answer_sets old.normal.now) (answer_sets old.engine.theory.normal)
           old.engine.defined c.args.assumed.now c.ask.new.budget.limit c.ask.new.self.state.trail
           c.ask.result c.requires.sound.same says),
     )

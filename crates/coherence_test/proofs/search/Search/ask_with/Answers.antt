@@ -14,3 +14,10 @@ returns-in-Some-clause-says c not =
     (subst (λ trail. IsRefusedAtZero trail.steps assumed lit) c.trail.ensures
     (subst (λ all. IsRefusedAtZero c.trail.result.now.steps all lit)
     (c.as_slice.ensures ∙ c.in-Ok.ensures) c.in-Some.ensures)))
+
+pub returns-clause-says : goal.returns-clause-says
+returns-clause-says c not =
+    let old = c.args.self.now in
+    subst
+    (λ lits. Says old.normal.now c.ask.new.self.engine old.disjunctions lits c.ask.result)
+    (c.as_slice-in-None.ensures ∙ c.in-Ok.ensures) (c.ask.ensures.says not)
