@@ -48,10 +48,9 @@ open_sum value weight items = sum_by (λ x. unless_false (value x) (weight x)) i
 
 -- the four cases in which literals with values and weights, a bound, and the value of the variable
 -- give a clause: the true ones reach the bound, and the variable isn't true; those that aren't
--- false
--- stay below it, and the variable isn't false; the variable is true, and without one that isn't
--- true
--- they stay below it; the variable is false, and with one that isn't false the true ones reach it
+-- false stay below it, and the variable isn't false; the variable is true, and without one that
+-- isn't true they stay below it; the variable is false, and with one that isn't false the true ones
+-- reach it
 pub data GivesBy {X : Type 0} (value : X → Value) (weight : X → ℕ) (items : List X) (bound : ℕ)
     (var : Value) : Type 0 where
   reached : bound ≤ true_sum value weight items → var ≢ Yes → GivesBy value weight items bound var
