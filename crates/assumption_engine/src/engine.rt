@@ -71,8 +71,8 @@ impl<T: Theory> Engine<T> {
         self.state.store()
     }
 
-    /// The assignments are a trail of the clauses, as contracts know it then. It does nothing when it
-    /// runs.
+    /// The assignments are a trail of the clauses, as contracts know it then. It does nothing when
+    /// it runs.
     pub fn vouch(&self)
         ensures is_trail { IsTrail self.now.state.trail }
         ensures of_store { IsTrailOf self.now.state.trail.steps self.now.state.clauses }

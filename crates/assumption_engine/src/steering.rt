@@ -36,8 +36,8 @@ impl Steering {
         })
     }
 
-    /// Takes the order of decisions over from another search, whose trail this is. The values on the
-    /// trail are the phases of its variables.
+    /// Takes the order of decisions over from another search, whose trail this is. The values on
+    /// the trail are the phases of its variables.
     pub fn take_after(
         &mut self,
         alloc: Global,

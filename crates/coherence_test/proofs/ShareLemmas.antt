@@ -1,6 +1,7 @@
 -- What is noted of the clauses that were counted.
 use Rattle.std.proofs.Common.{◌≡◌, ◌<◌, ◌+◌, ◌-◌, ◌++◌, ◌∷◌, [], ℕ, true, false, List, filter, take}
-use Rattle.std.proofs.Common.{drop, get_or, length, ap, sym, ◌∙◌, subst, arith, refl, nat_le, ◌&&◌, inl, inr}
+use Rattle.std.proofs.Common.{drop, get_or, length, ap, sym, ◌∙◌, subst, arith, refl, nat_le}
+use Rattle.std.proofs.Common.{◌&&◌, inl, inr}
 use Rattle.std.specs.Prelude.{All}
 use Rattle.std.specs.List.{AllZip, list_all}
 use Rattle.std.proofs.lemmas.Bool.{and_from, and_parts, cases_Bool, le-leb, leb-true}
@@ -82,7 +83,8 @@ counted_tellable normal disjunctions clauses used before after counted k d withi
     }
 
 module _ (normal : Normal) (disjunctions clauses : List (List Lit)) (used : ℕ)
-    (before after : Counted) (counted : HasCountedUnits normal disjunctions clauses used before after)
+    (before after : Counted)
+    (counted : HasCountedUnits normal disjunctions clauses used before after)
     (units : List (List Lit)) (from : ℕ) (all : units ≡ after.units)
     (is_from : from ≡ length before.units) where
   -- what was counted are the clauses behind those before

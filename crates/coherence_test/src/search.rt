@@ -169,8 +169,8 @@ impl<'a> Search<'a> {
         Ok(var)
     }
 
-    /// Asks for an answer set that makes the assumed literals true, and the selector. A literal that
-    /// is false by the assignments of level 0 is a core, and the engine isn't asked.
+    /// Asks for an answer set that makes the assumed literals true, and the selector. A literal
+    /// that is false by the assignments of level 0 is a core, and the engine isn't asked.
     fn ask_with(
         &mut self,
         alloc: Global,

@@ -76,8 +76,8 @@ impl<'a> Tester<'a> {
         Tester::over(alloc, normal, store)
     }
 
-    /// The same tester, which decides in the order of another tester of the normal form, and as that
-    /// one did last. It takes no clause from there.
+    /// The same tester, which decides in the order of another tester of the normal form, and as
+    /// that one did last. It takes no clause from there.
     pub fn open_after(
         alloc: Global,
         completed: &Store,

@@ -4,7 +4,8 @@ use Rattle.std.proofs.Common.{filter, length, nat_eq, not, true, false, refl, sy
 use Rattle.std.proofs.Common.{inl, inr, arith}
 use Rattle.std.specs.Prelude.{All, Contains}
 use Rattle.std.proofs.lemmas.Bool.{false≢true, ne_eqb}
-use Rattle.std.proofs.lemmas.List.Elements.{All-cons, All-contains, All-contains_itself, All-filter, All-nil}
+use Rattle.std.proofs.lemmas.List.Elements.{All-cons, All-contains, All-contains_itself, All-filter}
+use Rattle.std.proofs.lemmas.List.Elements.{All-nil}
 use Rattle.std.proofs.lemmas.List.Elements.{Contains-append_cases, Contains-append_left}
 use Rattle.std.proofs.lemmas.List.Elements.{Contains-get_or}
 use Rattle.clause_store.specs.declared.literal.Lit.{Lit}
@@ -30,7 +31,8 @@ module _ (clause : List Lit) (zeros : List ℕ) (short : Short) (is : IsClause c
       All-contains (λ it. 1 ≤ variable it) clause lit is.no_zero here in
       let there : Contains short.lits lit.0 =
       (same lit.0).0
-      (Contains-append_left (map code_of clause) zeros lit.0 (has_mapped code_of clause lit here)) in
+      (Contains-append_left (map code_of clause) zeros lit.0
+      (has_mapped code_of clause lit here)) in
       let not_zero : nat_eq lit.0 0 ≡ false = ne_eqb lit.0 0 (λ e. omega (arith, positive, e)) in
       has_mapped coded (filter is_some short.lits) lit.0
       (has_kept is_some short.lits lit.0 there (ap not not_zero))

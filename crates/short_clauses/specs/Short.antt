@@ -1,5 +1,6 @@
 -- Clauses of one to three literals, by the codes of their literals.
-use Rattle.std.specs.Prelude.{◌≢◌, ◌<◌, ◌≡◌, ◌⊎◌, ℕ, not, nat_eq, List, length, map, filter, AllPairs}
+use Rattle.std.specs.Prelude.{◌≢◌, ◌<◌, ◌≡◌, ◌⊎◌, ℕ, not, nat_eq, List, length, map, filter}
+use Rattle.std.specs.Prelude.{AllPairs}
 use Rattle.clause_store.specs.declared.literal.Lit.{Lit}
 use Rattle.clause_store.specs.declared.theory_says.Short.{Short}
 use Rattle.clause_store.specs.Clause.{HasAll}

@@ -8,7 +8,8 @@ returns-in-Some-clause-says c not =
     let old = c.args.self.now in
     let lit = c.in-Some.lit in
     let assumed = assumed_with c.args.asked.now.assume c.args.selector in
-    subst (Says old.normal.now old.engine old.disjunctions assumed) (sym (c.core_of_one.ensures not))
+    subst (Says old.normal.now old.engine old.disjunctions assumed)
+    (sym (c.core_of_one.ensures not))
     (zero_says old.normal.now old.engine old.disjunctions assumed lit c.requires.sound
     c.vouch.ensures.is_trail c.vouch.ensures.of_store
     (subst (λ trail. IsRefusedAtZero trail.steps assumed lit) c.trail.ensures
