@@ -3,3 +3,4 @@ pub mod ViewLemmas
 pub mod MaskLemmas
 pub mod ReadLemmas
 pub mod ReportLemmas
+pub mod LastLemmas

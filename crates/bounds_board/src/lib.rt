@@ -4,6 +4,7 @@
 #![tactic(auto)]
 
 mod board;
+mod last_read;
 mod opening;
 mod plays;
 mod reading;
@@ -15,6 +16,7 @@ mod telling;
 mod view;
 
 pub use board::Board;
+pub use last_read::LastRead;
 pub use seat::BoardSeat;
 pub use settled::Settled;
 pub use view::{About, BoardRule, View};

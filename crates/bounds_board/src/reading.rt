@@ -8,6 +8,7 @@ ghost use Rattle.bounds_board.specs.Board.{IsSeatOf, normal_of, mode_of, view_of
 ghost use Rattle.bounds_board.specs.Reads.{HasMetAll, LiesWithin, IsSettledBy};
 
 use crate::board::Board;
+use crate::last_read::LastRead;
 use crate::seat::BoardSeat;
 use crate::settled::Settled;
 use anytime_core::{show_in_bits, show_out_bits};
@@ -32,6 +33,26 @@ impl Board {
             show_in_bits(inside, 64 * word, &mut pair.lower);
             let outside = self.load(seat, 1 + self.side + word);
             show_out_bits(outside, 64 * word, &mut pair.upper);
+        }
+    }
+
+    /// Reads as `read_into` does, where the pair is that of the reader's last read: each word is
+    /// loaded once, and what the pair has is written anew only for words that changed since then.
+    pub fn read_again(&self, seat: &mut BoardSeat, last: &mut LastRead)
+        requires seat { IsSeatOf self.now seat.old }
+        requires over { IsPairOver (length (normal_of self.now).names) last.old }
+        ensures seat { IsSeatOf self.now seat.new }
+        ensures met { HasMetAll (normal_of self.now) (view_of seat.old) (view_of seat.new) }
+        ensures pair { IsPairOf (length (normal_of self.now).names) (seen_of seat.new) last.new }
+        ensures encloses { EnclosesN (normal_of self.now) (mode_of self.now) last.new }
+        ensures more { KnowsMore (view_of seat.old).actor (view_of seat.new).actor }
+        ensures within { LiesWithin (normal_of self.now) (seen_of seat.old) last.new }
+    {
+        self.load(seat, 0);
+        for at in 0..self.side {
+            let inside = self.load(seat, 1 + at);
+            let outside = self.load(seat, 1 + self.side + at);
+            last.take(at, inside, outside);
         }
     }
 
