@@ -1,11 +1,11 @@
 // Small programs with their base clauses, written as the codes of the literals with a 0 after
 // each clause.
-use crate::trials::scene::normal_of;
 use clause_store::{ClauseRef, Store};
 use completion::complete;
 use item_list::NoMemory;
 use std::alloc::Global;
 use std::test::Fail;
+use trial_inputs::normal_of;
 
 /// The text of a program in which atom 1 is forbidden, and its base clauses.
 struct Case {

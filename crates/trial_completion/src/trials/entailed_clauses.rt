@@ -1,11 +1,11 @@
 // A small program whose answer sets are known, and clauses over its variables.
-use crate::trials::scene::{clause_of, program_of};
 use clause_store::Units;
 use item_list::NoMemory;
 use plain_entailment::is_entailed;
 use rule_normaliser::{NormalError, normalise};
 use std::alloc::Global;
 use std::test::Fail;
+use trial_inputs::{clause_of, program_of};
 
 // Of atoms 2 and 3 each excludes the other, and either gives atom 4.
 static ONE_OF_TWO: &[u8] =

@@ -1,11 +1,11 @@
 // Small programs by their texts, and their normal forms.
-use crate::trials::scene::{normal_of, program_of};
 use ground_program::Kind;
 use item_list::{Copied, NoMemory};
 use normal_program::{Normal, NormalRule};
 use rule_normaliser::{NormalError, normalise};
 use std::alloc::Global;
 use std::test::Fail;
+use trial_inputs::{normal_of, program_of};
 
 /// A rule of a normal form: kind, heads, and the number of its body.
 type Line = (Kind, &'static [u32], u32);

@@ -1,45 +1,13 @@
-// The way of a text up to propagation: read, normalised, completed, and with its clauses attached.
-ghost use Rattle.std.specs.Prelude.{◌≡◌, false, IfOk, IfSome};
-ghost use Rattle.ground_program.specs.Program.{IsProgram};
+// The base clauses of a normal form in a search state, and values on a trail.
+ghost use Rattle.std.specs.Prelude.{◌≡◌, false, IfOk};
 ghost use Rattle.normal_program.specs.Limit.{IsNormal};
 
-use clause_store::{Clause, Lit, Store, Trail, Value};
+use clause_store::{Lit, Store, Trail, Value};
 use completion::complete;
-use ground_program::Program;
 use item_list::NoMemory;
-use lparse_reader::parse;
 use normal_program::Normal;
-use rule_normaliser::normalise;
 use search_state::SearchState;
 use std::alloc::Global;
-
-/// The program of a text. None is a text that is too long or refused, or want of memory.
-pub fn program_of(alloc: Global, text: &[u8]) -> Option<Program>
-    ensures { IfSome result IsProgram }
-{
-    if text.len() > 67108864 {
-        return None;
-    }
-    parse(alloc, text).ok()
-}
-
-/// The normal form of a text. None is a text without a program or with too many variables, or want
-/// of memory.
-pub fn normal_of(alloc: Global, text: &[u8]) -> Option<Normal>
-    ensures { IfSome result IsNormal }
-{
-    let program = program_of(alloc, text)?;
-    normalise(alloc, &program).ok()
-}
-
-/// The clause of these literals, by their codes.
-pub fn clause_of(alloc: Global, codes: &[u32]) -> Result<Clause, NoMemory> {
-    let mut clause = Clause::open();
-    for code in codes {
-        clause.push(alloc, Lit(*code))?;
-    }
-    Ok(clause)
-}
 
 /// The base clauses of a normal form over its variables, with nothing assigned.
 pub fn state_of(alloc: Global, normal: &Normal) -> Result<SearchState, NoMemory>

@@ -1,11 +1,11 @@
 // Lists of spent tests.
-use crate::trials::scene::clause_of;
 use clause_store::{Lit, Units};
 use ground_program::Set;
 use item_list::NoMemory;
 use normal_program::{SpentTest, Tests};
 use std::alloc::Global;
 use std::test::Fail;
+use trial_inputs::clause_of;
 
 /// A spent test, which learned one unit inside a set.
 fn spent_test(alloc: Global) -> Result<SpentTest, NoMemory> {

@@ -1,4 +1,4 @@
-use crate::trials::scene::{clause_of, has_values, normal_of, program_of, state_of};
+use crate::trials::scene::{has_values, state_of};
 use clause_store::{Clause, ClauseRef, Lit, Store, Units, Value};
 use completion::complete;
 use item_list::NoMemory;
@@ -6,6 +6,7 @@ use plain_entailment::is_entailed;
 use rule_normaliser::{NormalError, normalise};
 use std::alloc::Global;
 use std::test::Fail;
+use trial_inputs::{clause_of, normal_of, program_of};
 
 /// The text of a program, the values of literals, by their codes, after propagation, and a clause
 /// that is false in some answer set.

@@ -1,17 +1,17 @@
 // The clauses for the parts of a set against what they mean: every set over the atoms of a small
 // program is tried.
-ghost use Rattle.std.specs.Prelude.{◌≡◌, ◌<◌, IfOk};
+ghost use Rattle.std.specs.Prelude.{◌<◌};
 ghost use Rattle.ground_program.specs.Meaning.{IsSetOver};
 ghost use Rattle.normal_program.specs.Limit.{IsNormal};
 
-use crate::trials::scene::normal_of;
-use clause_store::{ClauseRef, Lit, Store};
+use clause_store::{ClauseRef, Store};
 use completion::complete_within;
-use ground_program::{Kind, Set};
+use ground_program::{Kind, has_atom};
 use item_list::NoMemory;
-use normal_program::{BodyOf, Normal, NormalRule};
+use normal_program::{Normal, NormalRule};
 use std::alloc::Global;
 use std::test::Fail;
+use trial_inputs::{body_holds, extension, has_true, normal_of, set_of};
 
 /// A program, a set of its atoms by a bit for each from atom 1 on, and how many proper parts of the
 /// set keep the rules of the reduct by it.
@@ -60,46 +60,17 @@ static CASES: [Case; 6] = [
     },
 ];
 
-/// The set of the atoms whose bits are on.
-fn set_of(alloc: Global, atoms: u32, bits: u32) -> Result<Set, NoMemory>
-    requires { atoms < 32 }
-    ensures { IfOk result (IsSetOver atoms) }
-{
-    let mut set = Set::open();
-    set.push(alloc, false)?;
-    for atom in 0..atoms {
-        set.push(alloc, bits >> atom & 1 == 1)?;
-    }
-    Ok(set)
-}
-
-fn has(set: &[bool], atom: u32) -> bool {
-    set.get(atom as usize).copied().unwrap_or(false)
-}
-
-/// Whether a body holds in a set by another.
-fn body_holds(body: &BodyOf, by: &[bool], set: &[bool]) -> bool {
-    let mut weight = 0u64;
-    for part in body.parts.as_slice() {
-        let counts = if part.lit.negated {
-            !has(by, part.lit.atom)
-        } else {
-            has(set, part.lit.atom)
-        };
-        if counts {
-            weight = weight.saturating_add(part.weight);
-        }
-    }
-    weight >= u64::from(body.bound)
-}
-
 /// Whether the heads of a rule hold in a set by another.
 fn heads_hold(rule: &NormalRule, by: &[bool], set: &[bool]) -> bool {
     let heads = rule.heads.as_slice();
     match rule.kind {
-        Kind::Choice => heads.iter().all(|head| !has(by, *head) || has(set, *head)),
-        Kind::Disjunctive => heads.iter().any(|head| has(set, *head)),
-        Kind::Basic | Kind::Constraint | Kind::Weight => heads.iter().all(|head| has(set, *head)),
+        Kind::Choice => heads
+            .iter()
+            .all(|head| !has_atom(by, *head) || has_atom(set, *head)),
+        Kind::Disjunctive => heads.iter().any(|head| has_atom(set, *head)),
+        Kind::Basic | Kind::Constraint | Kind::Weight => heads
+            .iter()
+            .all(|head| has_atom(set, *head)),
     }
 }
 
@@ -135,34 +106,10 @@ fn is_proper(part: &[bool], whole: &[bool]) -> bool {
     other
 }
 
-/// The extension of a set by another.
-fn extension(
-    alloc: Global,
-    normal: &Normal,
-    by: &[bool],
-    set: &[bool],
-) -> Result<Vec<bool>, NoMemory> {
-    let mut values = Vec::from_slice(alloc, set)?;
-    for body in normal.bodies.as_slice() {
-        values.push(body_holds(body, by, set))?;
-    }
-    Ok(values)
-}
-
-/// Whether an assignment makes some literal true.
-fn holds(lits: &[Lit], values: &[bool]) -> bool {
-    for lit in lits {
-        if has(values, lit.var().0) != lit.is_negated() {
-            return true;
-        }
-    }
-    false
-}
-
 /// Whether an assignment meets all clauses.
 fn meets(store: &Store, values: &[bool]) -> bool {
     for at in 0..store.len() {
-        if !holds(store.lits(ClauseRef(at)), values) {
+        if !has_true(values, store.lits(ClauseRef(at))) {
             return false;
         }
     }

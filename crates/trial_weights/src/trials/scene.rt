@@ -1,15 +1,11 @@
 // A normal form with its weights and a trail.
-ghost use Rattle.std.specs.Prelude.{◌≡◌, ◌≤◌, IfOk, IfSome};
-ghost use Rattle.ground_program.specs.Program.{IsProgram};
+ghost use Rattle.std.specs.Prelude.{◌≡◌, ◌≤◌, IfOk};
 ghost use Rattle.normal_program.specs.Limit.{IsNormal};
 ghost use Rattle.trial_weights.specs.Ready.{IsReady};
 
 use clause_store::{Clause, Lit, Says, Trail, Value};
-use ground_program::Program;
 use item_list::NoMemory;
-use lparse_reader::parse;
 use normal_program::Normal;
-use rule_normaliser::normalise;
 use std::alloc::Global;
 use weight_propagator::Weights;
 
@@ -19,25 +15,6 @@ pub struct Scene {
     pub normal: Normal,
     pub trail: Trail,
     pub weights: Weights,
-}
-
-/// The program of a text. None is a text that is too long or refused, or want of memory.
-fn program_of(alloc: Global, text: &[u8]) -> Option<Program>
-    ensures { IfSome result IsProgram }
-{
-    if text.len() > 67108864 {
-        return None;
-    }
-    parse(alloc, text).ok()
-}
-
-/// The normal form of a text. None is a text without a program or with too many variables, or want
-/// of memory.
-pub fn normal_of(alloc: Global, text: &[u8]) -> Option<Normal>
-    ensures { IfSome result IsNormal }
-{
-    let program = program_of(alloc, text)?;
-    normalise(alloc, &program).ok()
 }
 
 impl Scene {

@@ -1,11 +1,12 @@
 ghost use Rattle.trial_weights.specs.Ready.{IsReady};
 
 use crate::trials::plain::{is_false_but_one, some_gives};
-use crate::trials::scene::{Scene, normal_of};
+use crate::trials::scene::Scene;
 use clause_store::{Clause, Lit, Says};
 use item_list::NoMemory;
 use std::alloc::Global;
 use std::test::Fail;
+use trial_inputs::normal_of;
 
 // 2 and 3 may be chosen, and 4 holds where 2 with weight 2 and 3 with weight 1 reach 2. Variable 6
 // is that of the weight body.

@@ -1,33 +1,19 @@
 // Weight bodies inside a set, which judges their negative literals.
-ghost use Rattle.std.specs.Prelude.{◌≡◌, ◌<◌, IfOk};
 ghost use Rattle.ground_program.specs.Meaning.{IsSetOver};
 ghost use Rattle.normal_program.specs.Limit.{IsNormal};
 
-use crate::trials::scene::normal_of;
 use clause_store::{Clause, Says, Trail};
 use ground_program::Set;
 use item_list::NoMemory;
 use normal_program::Normal;
 use std::alloc::Global;
 use std::test::Fail;
+use trial_inputs::{normal_of, set_of};
 use weight_propagator::Weights;
 
 // 2 and 3 may be chosen, and 4 holds where not 3 with weight 2 and 2 with weight 1 reach 2.
 // Variable 6 is that of the weight body.
 static NEGATIVE: &[u8] = b"3 2 2 3 0 0\n5 4 2 2 1 3 2 2 1\n0\n0\nB+\n0\nB-\n1\n0\n1\n";
-
-/// The set of the atoms whose bits are on, from atom 1 on.
-fn set_of(alloc: Global, atoms: u32, bits: u32) -> Result<Set, NoMemory>
-    requires { atoms < 32 }
-    ensures { IfOk result (IsSetOver atoms) }
-{
-    let mut set = Set::open();
-    set.push(alloc, false)?;
-    for atom in 0..atoms {
-        set.push(alloc, bits >> atom & 1 == 1)?;
-    }
-    Ok(set)
-}
 
 /// What is said inside a set where nothing is assigned.
 fn said_within(
