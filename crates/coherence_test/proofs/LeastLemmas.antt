@@ -1,5 +1,5 @@
--- A minimal model is an answer set. A founded one is minimal without disjunctive rules: a part of it
--- that keeps the reduct has each founded atom.
+-- A minimal model is an answer set. Without disjunctive rules a founded one is minimal: a part of
+-- it that keeps the reduct has each founded atom.
 use Rattle.std.proofs.Common.{◌≡◌, ◌≢◌, ◌≤◌, ◌⊎◌, ℕ, Bool, true, false, not, cond, List, []}
 use Rattle.std.proofs.Common.{◌∷◌, get_or, length, Some, None, Option, slice_get, refl, sym, ap}
 use Rattle.std.proofs.Common.{◌∙◌}

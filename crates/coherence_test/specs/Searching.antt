@@ -78,7 +78,7 @@ HasAsMany limit (SpentInside set units) = length units ≡ limit
 HasAsMany limit Paused = ⊤
 HasAsMany limit NoMemory = ⊤
 
--- how many clauses were counted where each answer of an engine comes, and that a check is spent with
--- as many units as the limit
+-- how many clauses were counted where each answer of an engine comes, and that a check is spent
+-- with as many units as the limit
 abbrev pub IsAnsweredAt : ℕ → Counted → Answer → Type 0
 IsAnsweredAt stop after answer = IsCountedRight stop after answer × HasAsMany after.limit answer

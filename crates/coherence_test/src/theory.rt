@@ -1,5 +1,6 @@
-// Weight bodies are asked first, founding when they are quiet. Where both are at a total assignment,
-// and some rule is disjunctive, its atoms are tested for being minimal.
+// Weight bodies are asked first, and where they are quiet which atoms are unfounded. Where nothing
+// is said of a total assignment, and some rule is disjunctive, its atoms are tested for being
+// minimal.
 ghost use Rattle.std.specs.Prelude.{◌≡◌, ◌≤◌, ◌↔◌, [], IfOk, IsTrue, List};
 ghost use Rattle.ground_program.specs.declared.program.Kind.TheVariants.{Disjunctive};
 ghost use Rattle.clause_store.specs.Clause.{Meets};
@@ -62,7 +63,7 @@ impl<'a> AnswerSetTheory<'a> {
         })
     }
 
-    /// A clause that a weight body gives or, where these are quiet, founding.
+    /// A clause that a weight body gives or, where these are quiet, a loop clause.
     fn look(&mut self, alloc: Global, trail: &Trail, out: &mut Clause) -> Result<Says, NoMemory>
         requires range { greatest_body_var self.old.normal ≤ trail.now.vars }
         requires followed { AreFollowed trail.now.steps self.old.followed }
@@ -79,8 +80,8 @@ impl<'a> AnswerSetTheory<'a> {
         }
     }
 
-    /// A loop clause of one atom, or else of all that aren't founded. Where no rule is disjunctive
-    /// founding gives both.
+    /// A loop clause of one atom that no rule supports, or else of all that aren't founded. Without
+    /// disjunctive rules founding finds the former too.
     fn find_loop(
         &mut self,
         alloc: Global,

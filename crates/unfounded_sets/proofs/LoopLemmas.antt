@@ -123,7 +123,8 @@ module _ (normal : Normal) (steps : List Step) (founded part : List Bool)
       (λ k d within. counts_if (get_or parts k d) (atoms k d within))
 
   -- the set lacks a head in the part
-  lacks_head : (rule : NormalRule) → Any (IsIn part) rule.heads → ¬ HasHeads steps founded rule.heads
+  lacks_head : (rule : NormalRule) → Any (IsIn part) rule.heads
+      → ¬ HasHeads steps founded rule.heads
   lacks_head rule (k, head, within, at, here) has_heads =
       let open_head = (is.just head).0 here in
       open_head.outside

@@ -1,12 +1,14 @@
 -- Which atoms are marked as supported, and the loop clause of one that isn't.
 use Rattle.std.proofs.Common.{◌≡◌, ◌≢◌, ◌<◌, ◌+◌, ◌⊎◌, ℕ, Bool, true, false, List, [], ◌∷◌, ◌++◌}
-use Rattle.std.proofs.Common.{length, set, get_or, arith, refl, sym, ap, ◌∙◌, subst, ⊎_elim, inl, inr}
+use Rattle.std.proofs.Common.{length, set, get_or, arith, refl, sym, ap, ◌∙◌, subst, ⊎_elim}
+use Rattle.std.proofs.Common.{inl, inr}
 use Rattle.std.proofs.Common.{length-set}
 use Rattle.std.specs.Prelude.{All, Any, Contains}
 use Rattle.std.proofs.lemmas.Bool.{cases_eq, cases_lt, false≢true}
 use Rattle.std.proofs.lemmas.List.{get_or-set_same, get_or-set_other, get_or_past}
 use Rattle.std.proofs.lemmas.List.Elements.{All-contains, All-nil, All-push, All-weaker}
 use Rattle.std.proofs.lemmas.List.Elements.{Contains-append_left, Contains-push}
+use Rattle.ground_program.specs.declared.program.Kind.TheVariants.{Disjunctive}
 use Rattle.ground_program.specs.Meaning.{IsIn}
 use Rattle.clause_store.specs.declared.step.Step.{Step}
 use Rattle.clause_store.specs.Standing.{IsFalse}
@@ -60,6 +62,19 @@ adds_more front one before mid so_far within = record {
 
 -- ---- the heads of a rule
 
+-- another head that is true is outside a set that has no other atom
+other_outside : (steps : List Step) (part : List Bool) (rule : NormalRule) (atom : ℕ)
+    → (rule.kind ≡ Disjunctive) × Any (IsOtherTrue steps atom) rule.heads
+    → ((one : ℕ) → one ≢ atom → ¬ IsIn part one) → HasOther steps part rule
+other_outside steps part rule atom (disjunctive, (k, head, within, at, it)) outside = (
+  head,
+  record {
+    disjunctive = disjunctive;
+    among = (k, within, at);
+    other = record { denied = it.denied; outside = outside head it.other };
+  },
+)
+
 module _ (normal : Normal) (steps : List Step) (rule : NormalRule) where
   abbrev body : ℕ
   body = body_var normal rule.body
@@ -88,18 +103,7 @@ module _ (normal : Normal) (steps : List Step) (rule : NormalRule) where
           head = among;
           possible = λ out.
               ⊎_elim (λ denied. possible denied)
-              (λ other. none (
-                other.1.1,
-                record {
-                  disjunctive = other.0;
-                  among = (other.1.0, other.1.2, other.1.3);
-                  other = record {
-                    denied = other.1.4.denied;
-                    outside = λ inside. false≢true inside;
-                  };
-                },
-              ))
-              out;
+              (λ other. none (other_outside steps [] rule atom other (λ one apart. false≢true))) out;
         }))
         (adds.added atom here);
     complete = λ k d within out. absurd (out (adds.has k d within));
@@ -226,17 +230,8 @@ module _ (normal : Normal) (steps : List Step) (none supported : List Bool) (ato
       let same = only head here in
       ⊎_elim (λ denied. inl denied)
       (λ other. inr
-      (inr (
-        other.1.1,
-        record {
-          disjunctive = other.0;
-          among = (other.1.0, other.1.2, other.1.3);
-          other = record {
-            denied = other.1.4.denied;
-            outside = λ inside. other.1.4.other (only other.1.1 inside);
-          };
-        },
-      )))
+      (inr
+      (other_outside steps part rule atom other (λ one apart inside. apart (only one inside)))))
       (subst (LeavesOut normal steps rule) same
       (All-contains (λ one. ¬ IsIn supported one → LeavesOut normal steps rule one) rule.heads head
       complete (k, within, at)
@@ -263,8 +258,9 @@ module _ (normal : Normal) (steps : List Step) (none supported : List Bool) (ato
     unsupported = λ some.
         let leaves =
         All-contains
-        (λ (rule : NormalRule). All (λ head. ¬ IsIn supported head → LeavesOut normal steps rule head)
-        rule.heads) normal.rules some.1 marks.complete (some.0, some.2, some.3) in
+        (λ (rule : NormalRule).
+        All (λ head. ¬ IsIn supported head → LeavesOut normal steps rule head) rule.heads)
+        normal.rules some.1 marks.complete (some.0, some.2, some.3) in
         some.4.possible
         (All-contains (λ one. ¬ IsIn supported one → LeavesOut normal steps some.1 one)
         some.1.heads atom leaves some.4.head opened.outside);

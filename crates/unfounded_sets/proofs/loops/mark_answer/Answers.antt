@@ -55,4 +55,5 @@ returns-in_default c =
     let out : is_false c.args.trail.now.steps lit ≡ false = search rules in
     wants_false c.args.normal.now c.args.trail.now.steps c.args.part.now c.args.rule.now
     c.get-body.result.now c.args.wanted.now c.mark_false.new.wanted c.get-body.ensures
-    (not_false_if c.args.trail.now.steps lit out) c.in_default.ensures.none c.requires.blocked c.mark_false.ensures
+    (not_false_if c.args.trail.now.steps lit out) c.in_default.ensures.none c.requires.blocked
+    c.mark_false.ensures

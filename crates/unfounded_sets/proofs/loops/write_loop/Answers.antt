@@ -30,7 +30,8 @@ returns-in_default c =
       written =
           written_set c.args.normal.now c.args.trail.now c.args.part.now c.clear.new.set
           c.mark_answers.new.wanted c.args.atom c.write_wanted.new.out c.requires.covered
-          c.requires.part (c.clear.ensures.count ∙ c.requires.places) wants c.in_ok-write_wanted.ensures known;
+          c.requires.part (c.clear.ensures.count ∙ c.requires.places) wants
+          c.in_ok-write_wanted.ensures known;
       places =
           wants.places ∙ length-set c.clear.new.set c.args.atom true ∙ c.clear.ensures.count;
     }

@@ -49,6 +49,7 @@ returns-in-Spent-clause-answer c =
     let disjunctive = rw (← c.self.view_is) at c.requires.disjunctive in
     rw (c.into_units.ensures, ← c.self.view_is)
     (spent_checked c.self.inside.normal.now c.args.trail.now c.self.invariant.is_normal it
-    c.in_ok-set.set c.in_ok-set.ensures disjunctive c.args.limit c.new-budget.result c.smaller.new.budget
+    c.in_ok-set.set c.in_ok-set.ensures disjunctive c.args.limit c.new-budget.result
+    c.smaller.new.budget
     (ap (λ budget. budget.limit) c.new-budget.ensures) (c.in-Spent.ensures.counted (λ e. cc))
     c.in-Spent.ensures.answer)
