@@ -1,0 +1,3 @@
+pub mod BoardLemmas
+pub mod ConsequenceLemmas
+pub mod MachineLemmas

@@ -1,0 +1,6 @@
+// The tests, by what they are about.
+mod at_once;
+mod facts;
+mod machine;
+mod one_seat;
+mod scene;

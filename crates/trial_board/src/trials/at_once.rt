@@ -1,0 +1,127 @@
+// One seat reads again and again in one thread while another reports in a second one. Then the
+// reader learns what the other had seen.
+ghost use Rattle.std.specs.Prelude.{◌≡◌, IfOk, IsTrue, length};
+ghost use Rattle.ground_program.specs.Bounds.{IsPairOver};
+ghost use Rattle.normal_program.specs.Normal.{IsAnswerSetN};
+ghost use Rattle.bounds_board.specs.Board.{IsSeatOf, normal_of};
+ghost use Rattle.trial_board.specs.Ready.{IsReady};
+
+use crate::trials::facts::is_answer;
+use crate::trials::scene::{ONE_OF_TWO, Scene};
+use bounds_board::{Board, BoardSeat};
+use ground_program::{Pair, Set};
+use item_list::NoMemory;
+use std::alloc::Global;
+use std::test::Fail;
+use std::thread::{Threads, join};
+use trial_inputs::{program_of, set_of};
+
+/// What a reader ends with.
+#[derive(Drop)]
+struct Reading {
+    seat: BoardSeat,
+    pair: Pair,
+}
+
+/// Reads the board many times.
+fn read_often(board: &Board, mut seat: BoardSeat, mut pair: Pair) -> Reading
+    requires seat { IsSeatOf board.now seat }
+    requires over { IsPairOver (length (normal_of board.now).names) pair }
+    ensures seat { IsSeatOf board.now result.seat }
+    ensures over { IsPairOver (length (normal_of board.now).names) result.pair }
+{
+    for _ in 0..1000u32 {
+        board.read_into(&mut seat, &mut pair);
+    }
+    Reading { seat, pair }
+}
+
+/// Reports what an answer set shows.
+fn report(board: &Board, mut seat: BoardSeat, set: &Set) -> BoardSeat
+    requires seat { IsSeatOf board.now seat }
+    requires answer { IsAnswerSetN (normal_of board.now) set.now }
+    ensures { IsSeatOf board.now result }
+{
+    board.report_set(&mut seat, set);
+    seat
+}
+
+/// Whether a reader that reads while an answer set is reported, and then learns a note of the other
+/// seat, has what that set shows: candidate 2 is outside.
+fn reads_at_once<R: Threads>(
+    rt: &R,
+    board: &Board,
+    mut seat: BoardSeat,
+    pair: Pair,
+    set: &Set,
+) -> bool
+    requires seat { IsSeatOf board.now seat }
+    requires over { IsPairOver (length (normal_of board.now).names) pair }
+    requires answer { IsAnswerSetN (normal_of board.now) set.now }
+{
+    let other = board.note(&mut seat);
+    let (reading, mut other) = join(
+        rt,
+        move || read_often(board, seat, pair),
+        move || report(board, other, set),
+    );
+    let noted = board.note(&mut other);
+    has_learnt(board, reading, noted)
+}
+
+/// Whether a reader that learns what a noted seat has seen reads that candidate 2 is outside.
+fn has_learnt(board: &Board, reading: Reading, noted: BoardSeat) -> bool
+    requires seat { IsSeatOf board.now reading.seat }
+    requires over { IsPairOver (length (normal_of board.now).names) reading.pair }
+    requires noted { IsSeatOf board.now noted }
+{
+    let Reading { mut seat, mut pair } = reading;
+    board.learn(&mut seat, noted);
+    board.read_into(&mut seat, &mut pair);
+    let lower = pair.lower.as_slice() == [false, false, false].as_slice();
+    let upper = pair.upper.as_slice() == [true, false, true].as_slice();
+    lower && upper
+}
+
+/// Whether a set is an answer set of the program of a board.
+fn may_report(alloc: Global, scene: &Scene, set: &Set) -> Result<bool, NoMemory>
+    requires { IsReady scene.now.program scene.now.normal scene.now.board scene.now.seat
+        scene.now.pair }
+    ensures { IfOk result (λ yes. IsTrue yes → IsAnswerSetN (normal_of scene.now.board) set.now) }
+{
+    let answer = is_answer(alloc, &scene.program, &scene.normal, set)?;
+    Ok(answer)
+}
+
+/// Whether a reader has what was reported at once: the answer set of 2 and 4.
+fn is_learnt<R: Threads>(rt: &R, alloc: Global, scene: Scene) -> Result<bool, NoMemory>
+    requires { IsReady scene.program scene.normal scene.board scene.seat scene.pair }
+{
+    let set = set_of(alloc, 4, 0b1010)?;
+    if !may_report(alloc, &scene, &set)? {
+        return Ok(false);
+    }
+    let Scene {
+        board,
+        seat,
+        pair,
+        ..
+    } = scene;
+    Ok(reads_at_once(rt, &board, seat, pair, &set))
+}
+
+fn is_shown<R: Threads>(rt: &R, alloc: Global) -> Result<bool, NoMemory> {
+    let Some(program) = program_of(alloc, ONE_OF_TWO) else {
+        return Ok(false);
+    };
+    match Scene::open(alloc, program) {
+        None => Ok(false),
+        Some(scene) => is_learnt(rt, alloc, scene),
+    }
+}
+
+#[test]
+fn a_reader_learns_what_is_reported_meanwhile(rt: HostRuntime) -> Result<(), Fail> {
+    assert!(rt; is_shown(&rt, rt.alloc())?);
+    Ok(())
+}

@@ -1,0 +1,97 @@
+// A program with two answer sets, and a board of it.
+ghost use Rattle.std.specs.Prelude.{◌≡◌, ◌↔◌, IfOk, IfSome, IsTrue, OnOk, length};
+ghost use Rattle.ground_program.specs.Bounds.{IsCandidate};
+ghost use Rattle.ground_program.specs.Program.{IsProgram};
+ghost use Rattle.trial_board.specs.Ready.{IsReady};
+
+use crate::trials::facts::is_in_every;
+use bounds_board::{Board, BoardSeat, Settled};
+use ground_program::{Mode, Pair, Program};
+use item_list::NoMemory;
+use normal_program::Normal;
+use rule_normaliser::normalise;
+use std::alloc::Global;
+
+// Of atoms 2 and 3 each excludes the other, and either gives atom 4. So 4, which is candidate 3, is
+// in both answer sets, and candidates 1 and 2 are in one each.
+pub static ONE_OF_TWO: &[u8] =
+    b"1 2 1 1 3\n1 3 1 1 2\n1 4 1 0 2\n1 4 1 0 3\n0\n2 a\n3 b\n4 c\n0\nB+\n0\nB-\n1\n0\n1\n";
+
+/// A program, its normal form, a board of it in cautious mode, a seat and a pair.
+#[derive(Drop)]
+pub struct Scene {
+    pub program: Program,
+    pub normal: Normal,
+    pub board: Board,
+    pub seat: BoardSeat,
+    pub pair: Pair,
+}
+
+/// Whether a number is that of a candidate.
+pub fn is_candidate(normal: &Normal, cand: u32) -> bool
+    ensures { IsTrue result ↔ IsCandidate normal.now.names cand }
+{
+    1 <= cand && cand as usize <= normal.names.len()
+}
+
+impl Scene {
+    /// The scene of a program. None is one with too many variables, or want of memory.
+    pub fn open(alloc: Global, program: Program) -> Option<Scene>
+        requires { IsProgram program }
+        ensures { IfSome result
+            (λ it. IsReady it.program it.normal it.board it.seat it.pair) }
+    {
+        match normalise(alloc, &program) {
+            Err(_) => None,
+            Ok(normal) => {
+                let (board, seat) = Board::open(alloc, &normal, Mode::Cautious).ok()?;
+                let pair = Pair::open(alloc, board.candidates()).ok()?;
+                Some(Scene {
+                    program,
+                    normal,
+                    board,
+                    seat,
+                    pair,
+                })
+            }
+        }
+    }
+
+    /// Reads the board into the pair.
+    pub fn read(&mut self)
+        requires { IsReady self.old.program self.old.normal self.old.board self.old.seat
+            self.old.pair }
+        ensures { IsReady self.new.program self.new.normal self.new.board self.new.seat
+            self.new.pair }
+    {
+        self.board.read_into(&mut self.seat, &mut self.pair);
+    }
+
+    /// Reports that a candidate is a consequence, where it is one. Whether it is.
+    pub fn report_in(&mut self, alloc: Global, cand: u32) -> Result<bool, NoMemory>
+        requires { IsReady self.old.program self.old.normal self.old.board self.old.seat
+            self.old.pair }
+        ensures { OnOk result (IsReady self.new.program self.new.normal self.new.board
+            self.new.seat self.new.pair) }
+    {
+        if !is_candidate(&self.normal, cand) {
+            return Ok(false);
+        }
+        let inside = is_in_every(alloc, &self.program, &self.normal, cand)?;
+        if !inside {
+            return Ok(false);
+        }
+        self.board.report_in(&mut self.seat, cand);
+        Ok(true)
+    }
+
+    /// What a second seat that was told all finds of a candidate.
+    pub fn is_settled_for_another(&mut self, cand: u32) -> Settled
+        requires ready { IsReady self.old.program self.old.normal self.old.board self.old.seat
+            self.old.pair }
+        requires cand { IsCandidate self.old.normal.names cand }
+    {
+        let mut noted = self.board.note(&mut self.seat);
+        self.board.is_settled(&mut noted, cand)
+    }
+}
