@@ -16,10 +16,11 @@ pub fn all_answers(alloc: Global, program: &Program, normal: &Normal) -> Result<
 {
     let mut answers = Sets::open();
     for bits in 0..65536u32 {
-        if bits >> program.atoms == 0 {
-            let set = set_of(alloc, program.atoms, bits)?;
-            put_answer(alloc, program, normal, &set, &mut answers)?;
+        if bits >> program.atoms != 0 {
+            break;
         }
+        let set = set_of(alloc, program.atoms, bits)?;
+        put_answer(alloc, program, normal, &set, &mut answers)?;
     }
     Ok(answers)
 }

@@ -122,7 +122,7 @@ fn is_right_for_one(alloc: Global, draws: &mut Draws) -> Result<bool, NoMemory> 
 #[test]
 fn founding_is_as_its_definition_says(rt: HostRuntime) -> Result<(), Fail> {
     let mut draws = Draws::of(2);
-    for number in 0..300u32 {
+    for number in 0..100u32 {
         assert!(rt;
             is_right_for_one(rt.alloc(), &mut draws)?,
             "program {number}"

@@ -173,14 +173,14 @@ fn random_programs_are_tested_as_the_definition_says(rt: HostRuntime) -> Result<
     let mut draws = Draws::of(1);
     let mut stops: u32 = 0;
     let mut answer_sets: usize = 0;
-    for number in 0..200u32 {
+    for number in 0..100u32 {
         let round = random_round(rt.alloc(), &mut draws)?;
         assert!(rt; round.right, "program {number}");
         stops = stops.saturating_add(round.stops);
         answer_sets = answer_sets.saturating_add(round.answer_sets);
     }
     assert!(rt;
-        stops > 50 && answer_sets > 300,
+        stops > 10 && answer_sets > 100,
         "{stops} stops, {answer_sets} answer sets"
     );
     Ok(())
