@@ -3,7 +3,8 @@ use Rattle.std.proofs.Common.{◌≡◌, ◌<◌, ◌≤◌, ◌+◌, ℕ, Bool,
 use Rattle.std.proofs.Common.{◌++◌, length, get_or, set, refl, sym, ap, subst, ◌∙◌, ⊎_elim}
 use Rattle.std.proofs.Common.{arith, length-set, le_trans, le_refl, append-nil, append_assoc, not}
 use Rattle.std.proofs.Common.{true≢false, rules}
-use Rattle.std.specs.Prelude.{bit_or, slice_index, if◌then◌else◌, nat_eq, nat_lt, ◌&&◌}
+use Rattle.std.specs.Prelude.{bit_or, slice_index, slice_set, if◌then◌else◌, nat_eq, nat_lt}
+use Rattle.std.specs.Prelude.{◌&&◌}
 use Rattle.std.proofs.lemmas.List.{get_or-set_same, get_or-set_other}
 use Rattle.std.proofs.lemmas.Bool.{cases_eq}
 use Rattle.ground_program.specs.declared.program.Mode.{Mode}
@@ -115,22 +116,29 @@ meets_more : (actor : Actor) (event : Event) (place word : ℕ)
 meets_more actor event place word grows =
     record { words = part_grows actor.seen place word grows; log = le_refl actor.places }
 
+-- other words make no state earlier
+later_words : (machine next : Machine) (words : List ℕ) → IsLater machine next
+    → IsLater machine (record next { words = words })
+later_words machine next words is =
+    record {
+      normal = is.normal;
+      mode = is.mode;
+      room = is.room;
+      count = is.count;
+      log = is.log;
+      each = is.each;
+    }
+
 later_puts : (machine : Machine) (event : Event) (number place mask : ℕ) → IsSound machine
     → HasActor machine number → IsLater machine (puts_bits machine event number place mask)
 later_puts machine event number place mask sound has =
     let word : ℕ = bit_or (slice_index machine.words place) mask in
     let new : Actor = meets_word (actor_at machine number) event place word in
-    record {
-      normal = refl;
-      mode = refl;
-      room = refl;
-      count = length-set machine.actors number new;
-      log = ([], sym (append-nil machine.log));
-      each = each_with machine.actors number new
-          (meets_more (actor_at machine number) event place word
-          (λ bit seen. bit_or_left (slice_index machine.words place) mask bit
-          ((actor_is machine number sound has).part place bit seen)));
-    }
+    later_words machine (with_actor machine number new) (slice_set machine.words place word)
+    (later_with machine number new
+    (meets_more (actor_at machine number) event place word
+    (λ bit seen. bit_or_left (slice_index machine.words place) mask bit
+    ((actor_is machine number sound has).part place bit seen))))
 
 told_more : (one other : Actor) → KnowsMore one (told_by one other)
 told_more one other =

@@ -18,7 +18,7 @@ use Rattle.anytime_core.specs.declared.event.Event.TheVariants.{Copy, Meet}
 use Rattle.anytime_core.specs.declared.actor.Actor.{Actor}
 use Rattle.anytime_core.specs.Bits.{IsPartOf, all_words, words_for}
 use Rattle.anytime_core.specs.Truth.{IsTrueWord}
-use Rattle.anytime_core.specs.Shareable.{IsShareable}
+use Rattle.short_clauses.specs.Shareable.{IsShareable}
 use Rattle.anytime_core.specs.Knowing.{newcomer, steps_once, meets_word, sees_places, told_by}
 use Rattle.anytime_core.specs.Knowing.{places_after}
 use Rattle.anytime_core.specs.Machine.{Machine, candidates_of, actor_at, with_actor, puts_bits}

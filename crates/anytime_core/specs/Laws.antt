@@ -16,7 +16,7 @@ use Rattle.anytime_core.specs.declared.actor.Actor.{Actor}
 use Rattle.anytime_core.specs.Bits.{HasBit, IsPairOf, IsPartOf, all_words, in_place, out_place}
 use Rattle.anytime_core.specs.Bits.{bit_of, words_for}
 use Rattle.anytime_core.specs.Truth.{EnclosesN, AreTrue}
-use Rattle.anytime_core.specs.Shareable.{IsShareable}
+use Rattle.short_clauses.specs.Shareable.{IsShareable}
 use Rattle.anytime_core.specs.Machine.{Machine, candidates_of, actor_at, opening, after, after_all}
 use Rattle.anytime_core.specs.Legal.{HasActor, IsLegal, AreLegal, steps_by}
 

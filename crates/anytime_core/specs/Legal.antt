@@ -7,7 +7,7 @@ use Rattle.anytime_core.specs.declared.event.Event.TheVariants.{ReadWord, Append
 use Rattle.anytime_core.specs.declared.event.Event.TheVariants.{Copy, Meet}
 use Rattle.anytime_core.specs.Bits.{HasBit, words_for}
 use Rattle.anytime_core.specs.Truth.{IsTrueIn, IsTrueOut, IsCoherent}
-use Rattle.anytime_core.specs.Shareable.{IsShareable}
+use Rattle.short_clauses.specs.Shareable.{IsShareable}
 use Rattle.anytime_core.specs.Machine.{Machine, candidates_of, actor_at, after}
 
 -- the actor of a number exists

@@ -1,7 +1,6 @@
 pub mod Bits
 pub mod Showing
 pub mod Truth
-pub mod Shareable
 pub mod Knowing
 pub mod Actors
 pub mod Machine

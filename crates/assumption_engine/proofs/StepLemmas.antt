@@ -1,6 +1,6 @@
 -- What one call of a search comes to, by what its parts say.
 use Rattle.std.proofs.Common.{◌≡◌, ◌<◌, ℕ, List, [], ◌∷◌, ◌++◌, length, inr, refl, sym, ap, ◌∙◌}
-use Rattle.std.proofs.Common.{◌≤◌, ◌⊎◌, subst}
+use Rattle.std.proofs.Common.{◌≡◌, ◌≤◌, ◌⊎◌, subst}
 use Rattle.std.specs.Prelude.{All, Contains, Result, Ok, Err, OnOk, IfOk}
 use Rattle.clause_store.specs.declared.literal.Lit.{Lit}
 use Rattle.clause_store.specs.declared.literal.Value.TheVariants.{Unset}
@@ -17,7 +17,8 @@ use Rattle.assumption_engine.specs.Down.{IsDown, KeepsPlaces}
 use Rattle.assumption_engine.specs.Engine.{GoesOn, HasCounted, HasPropagated, IsLearned, IsRight}
 use Rattle.assumption_engine.specs.Engine.{WentBack}
 use Rattle.assumption_engine.specs.Sided.{AreInOrder, AreOpposed}
-use Rattle.assumption_engine.specs.Task.{IsNext}
+use Rattle.assumption_engine.specs.declared.task.Task.{Task}
+use Rattle.assumption_engine.specs.Task.{IsNext, IsTask}
 use Rattle.assumption_engine.specs.Answer.{HasGiven, HasRoom, HasTurned, IsGoing, IsTurn, MayTurn}
 use Rattle.assumption_engine.specs.Progress.{weight}
 use Rattle.assumption_engine.specs.declared.answer.Turn.{Turn}
@@ -264,3 +265,10 @@ pub on_ok_of : {X E : Type 0} {P : X → Type 0} {Q : Type 0} (result : Result X
     → ((x : X) → P x → Q) → OnOk result Q
 on_ok_of (Ok x) is then = then x is
 on_ok_of (Err e) is then = is
+
+-- a task that was read is the one that was found
+pub task_read : (meaning : Meaning) (assumed : List Lit) (state : Searched) (given : List Lit)
+    (found task : Task) → found ≡ task → IsTask meaning assumed state given found
+    → IsTask meaning assumed state given task
+task_read meaning assumed state given found task is holds =
+    subst (IsTask meaning assumed state given) is holds

@@ -3,7 +3,7 @@ ghost use Rattle.std.specs.Prelude.{◌≡◌, ◌≤◌, ◌<◌, ◌^◌, [], 
 ghost use Rattle.std.specs.Prelude.{OnErr, OnOk};
 ghost use Rattle.clause_store.specs.Clause.{AreOver, Meets};
 ghost use Rattle.clause_store.specs.Laws.{AreMoreClauses};
-ghost use Rattle.clause_store.specs.Trail.{present_level};
+ghost use Rattle.clause_store.specs.Trail.{IsTrail, IsTrailOf, present_level};
 ghost use Rattle.assumption_engine.specs.Theory.{MeansTheSame};
 ghost use Rattle.assumption_engine.specs.Engine.{IsRight, WentBack};
 
@@ -71,12 +71,30 @@ impl<T: Theory> Engine<T> {
         self.state.store()
     }
 
+    /// The assignments are a trail of the clauses, as contracts know it then. It does nothing when it
+    /// runs.
+    pub fn vouch(&self)
+        ensures is_trail { IsTrail self.now.state.trail }
+        ensures of_store { IsTrailOf self.now.state.trail.steps self.now.state.clauses }
+    {
+        self.state.vouch();
+    }
+
     /// Lets the variables of these literals be decided first, as these literals, until conflicts
     /// say otherwise. A literal that stands in no clause is made false all the same.
     pub fn prefer(&mut self, lits: &[Lit])
         ensures { self.new ≡ record self.old { steering = self.new.steering } }
     {
         self.steering.prefer(lits);
+    }
+
+    /// Lets variables be decided in the order of another engine, and as they were last there. After
+    /// want of memory the order is as before.
+    pub fn take_after(&mut self, alloc: Global, other: &Engine<T>) -> Result<(), NoMemory>
+        ensures { self.new ≡ record self.old { steering = self.new.steering } }
+    {
+        self.steering
+            .take_after(alloc, &other.steering, other.state.trail())
     }
 
     /// Goes back to a level, and the theory with it.

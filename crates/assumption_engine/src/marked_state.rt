@@ -7,6 +7,7 @@ ghost use Rattle.clause_store.specs.Standing.{IsConflict};
 ghost use Rattle.clause_store.specs.Trail.{IsTrail, IsTrailOf, present_level, up_to, value_of};
 ghost use Rattle.clause_store.specs.Trail.{with_last};
 ghost use Rattle.propagator.specs.Fixpoint.{IsFixpoint};
+ghost use Rattle.search_state.specs.State.{decided, gone_back, opened};
 ghost use Rattle.assumption_engine.specs.Engine.{HasPropagated};
 ghost use Rattle.assumption_engine.specs.Sided.{IsFree};
 
@@ -40,11 +41,7 @@ impl MarkedState {
     pub fn open(alloc: Global, vars: u32, store: Store) -> Result<MarkedState, NoMemory>
         requires few { vars < 2 ^ 31 }
         requires over { AreOver vars store }
-        ensures { IfOk result (λ it. it ≡ record {
-          clauses = store;
-          trail = record { vars = vars; steps = [] };
-          dead = false;
-        }) }
+        ensures { IfOk result (λ it. it ≡ opened vars store) }
     {
         let unnegated = marks_of(alloc, vars, &store)?;
         let state = SearchState::open(alloc, vars, store)?;
@@ -111,9 +108,7 @@ impl MarkedState {
         requires alive { self.old.dead ≡ false }
         requires over { IsOver self.old.trail.vars lit }
         requires unset { value_of self.old.trail.steps lit ≡ Value.Unset }
-        ensures { self.new ≡ record self.old {
-          trail = with_last self.old.trail lit None (present_level self.old.trail.steps + 1);
-        } }
+        ensures { self.new ≡ decided self.old lit }
     {
         self.state.decide(lit);
     }
@@ -122,9 +117,7 @@ impl MarkedState {
     pub fn back_to(&mut self, level: u32)
         requires alive { self.old.dead ≡ false }
         requires level { level ≤ present_level self.old.trail.steps }
-        ensures steps { self.new ≡ record self.old {
-          trail = record self.old.trail { steps = up_to level self.old.trail.steps };
-        } }
+        ensures steps { self.new ≡ gone_back self.old level }
         ensures level { present_level self.new.trail.steps ≡ level }
     {
         self.state.back_to(level);

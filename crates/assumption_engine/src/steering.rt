@@ -24,7 +24,7 @@ pub struct Steering {
 }
 
 impl Steering {
-    /// Of a search over the variables 1 to `vars`. All other calls take no memory.
+    /// Of a search over the variables 1 to `vars`. All other calls but `take_after` take no memory.
     pub fn open(alloc: Global, vars: u32) -> Result<Steering, NoMemory>
         requires { vars < 2 ^ 31 }
     {
@@ -34,6 +34,22 @@ impl Steering {
             counter: LevelCounter::open(alloc, vars)?,
             pace: RestartPace::open(),
         })
+    }
+
+    /// Takes the order of decisions over from another search, whose trail this is. The values on the
+    /// trail are the phases of its variables.
+    pub fn take_after(
+        &mut self,
+        alloc: Global,
+        other: &Steering,
+        trail: &Trail,
+    ) -> Result<(), NoMemory>
+        ensures { self.new.places ≡ self.old.places }
+    {
+        let mut order = other.order.copy(alloc)?;
+        order.take_back(trail, 0);
+        self.order = order;
+        Ok(())
     }
 
     /// A question begins, at level 0.

@@ -9,6 +9,7 @@ use Rattle.std.proofs.Math.Pow.{pow-lt}
 use Rattle.std.proofs.lemmas.Nat.Bits.{bit_at-pow_same, bit_at-pow_other}
 use Rattle.ground_program.specs.declared.program.Mode.{Mode}
 use Rattle.ground_program.specs.declared.program.Mode.TheVariants.{Cautious, Brave}
+use Rattle.ground_program.specs.declared.program.Named.{Named}
 use Rattle.ground_program.specs.Bounds.{IsCandidate, Shows}
 use Rattle.normal_program.specs.declared.normal.Normal.{Normal}
 use Rattle.normal_program.specs.Normal.{IsAnswerSetN}
@@ -43,35 +44,41 @@ power_fits k few =
     one_times : (n : ℕ) → 1 * n ≡ n
     one_times n = omega arith
 
+-- the mask of a candidate has its bit alone
+pub mask_is : (cand : ℕ) → 1 * 2 ^ bit_of cand % 18446744073709551616 ≡ 2 ^ bit_of cand
+mask_is cand = let few : bit_of cand < 64 = omega arith in power_fits (bit_of cand) few
+
 -- the mask of one candidate is true where the candidate is a consequence
 pub one_in : (normal : Normal) (mode : Mode) (cand : ℕ) → IsCandidate normal.names cand
     → IsConsequenceN normal mode cand → (bit : ℕ) → HasBit (2 ^ bit_of cand) bit
     → IsTrueIn normal mode (in_place cand) bit
 one_in normal mode cand candidate holds bit has =
-    record {
-      cand = cand;
-      candidate = candidate;
-      word = refl;
-      number = power_bit (bit_of cand) bit has;
-      holds = holds;
-    }
+    let number = power_bit (bit_of cand) bit has in
+    record { cand = cand; candidate = candidate; word = refl; number = number; holds = holds }
 
 pub one_out : (normal : Normal) (mode : Mode) (cand : ℕ) → IsCandidate normal.names cand
     → ¬ IsConsequenceN normal mode cand → (bit : ℕ) → HasBit (2 ^ bit_of cand) bit
     → IsTrueOut normal mode (out_place (length normal.names) cand) bit
 one_out normal mode cand candidate holds bit has =
-    record {
-      cand = cand;
-      candidate = candidate;
-      word = refl;
-      number = power_bit (bit_of cand) bit has;
-      holds = holds;
-    }
+    let number = power_bit (bit_of cand) bit has in
+    record { cand = cand; candidate = candidate; word = refl; number = number; holds = holds }
 
--- the word of a candidate is one of its side
-pub word_exists : (candidates cand : ℕ) → 1 ≤ cand → cand ≤ candidates
-    → (cand - 1) / 64 < words_for candidates
-word_exists candidates cand first last = omega arith
+-- the words of a candidate are words of the board
+word_exists : (names : List Named) (cand : ℕ) → IsCandidate names cand
+    → (cand - 1) / 64 < words_for (length names)
+word_exists names cand candidate = omega (arith, candidate.first, candidate.last)
+
+pub in_within : (names : List Named) (cand : ℕ) → IsCandidate names cand
+    → in_place cand < all_words (length names)
+in_within names cand candidate =
+    let side : ℕ = words_for (length names) in
+    let less : (cand - 1) / 64 < side = word_exists names cand candidate in omega arith
+
+pub out_within : (names : List Named) (cand : ℕ) → IsCandidate names cand
+    → out_place (length names) cand < all_words (length names)
+out_within names cand candidate =
+    let side : ℕ = words_for (length names) in
+    let less : (cand - 1) / 64 < side = word_exists names cand candidate in omega arith
 
 -- after a report the seat has seen the bits of the mask
 pub holds_mask : (old new : View) (event : Event) (place found mask bit : ℕ)
@@ -83,10 +90,37 @@ holds_mask old new event place found mask bit met is within has =
     (sym (sees_word old new event place (bit_or found mask) met is within))
     (bit_or_right found mask bit has)
 
+-- after a report of one candidate the seat has seen its bit
+pub holds_candidate : (normal : Normal) (old new : View) (event : Event) (place found cand : ℕ)
+    → Met old new event place (bit_or found (1 * 2 ^ bit_of cand % 18446744073709551616))
+    → IsView old → old.normal ≡ normal → place < all_words (length normal.names)
+    → HasBit (slice_index new.actor.seen place) (bit_of cand)
+holds_candidate normal old new event place found cand met is about within =
+    holds_mask old new event place found (1 * 2 ^ bit_of cand % 18446744073709551616) (bit_of cand)
+    met is (subst (λ (n : Normal). place < all_words (length n.names)) (sym about) within)
+    (subst (λ n. HasBit n (bit_of cand)) (sym (mask_is cand)) (bit_at-pow_same (bit_of cand)))
+
 -- the flag of what was reported
 pub flag_bit : (coherent : Bool) → HasBit (flag_of coherent) (if coherent then 0 else 1)
 flag_bit true = bit_at-pow_same 0
 flag_bit false = bit_at-pow_same 1
+
+-- the candidate whose bit a word has, and its places
+record OfBit (names word bit cand : ℕ) : Type 0 where
+  pub first : 1 ≤ cand
+  pub last : cand ≤ names
+  pub word_is : word ≡ (cand - 1) / 64
+  pub bit_is : bit ≡ (cand - 1) % 64
+
+of_bit : (names word bit : ℕ) → bit < 64 → 64 * word + bit < names
+    → OfBit names word bit (64 * word + bit + 1)
+of_bit names word bit few inside =
+    record {
+      first = omega arith;
+      last = omega arith;
+      word_is = omega arith;
+      bit_is = omega arith;
+    }
 
 -- a mask of shown candidates is true: out in cautious mode, in in brave mode
 module _ (normal : Normal) (members : List Bool) (word mask : ℕ)
@@ -95,18 +129,12 @@ module _ (normal : Normal) (members : List Bool) (word mask : ℕ)
       → IsTrueOut normal Cautious (1 + words_for (length normal.names) + word) bit
   mask_out is bit has =
       let s = (is bit).0 has in
-      let few : bit < 64 = s.few in
-      let inside : 64 * word + bit < length normal.names = s.candidate in
-      let cand : ℕ = 64 * word + bit + 1 in
-      let same : cand - 1 ≡ 64 * word + bit = omega arith in
-      let quotient : (64 * word + bit) / 64 ≡ word = omega arith in
-      let rest : (64 * word + bit) % 64 ≡ bit = omega arith in
+      let of = of_bit (length normal.names) word bit s.few s.candidate in
       record {
-        cand = cand;
-        candidate = record { first = omega arith; last = omega arith };
-        word = ap (λ n. 1 + words_for (length normal.names) + n)
-            (sym (ap (λ n. n / 64) same ∙ quotient));
-        number = sym (ap (λ n. n % 64) same ∙ rest);
+        cand = 64 * word + bit + 1;
+        candidate = record { first = of.first; last = of.last };
+        word = ap (λ n. 1 + words_for (length normal.names) + n) of.word_is;
+        number = of.bit_is;
         holds = λ consequence. s.shown (consequence members answer);
       }
 
@@ -114,17 +142,12 @@ module _ (normal : Normal) (members : List Bool) (word mask : ℕ)
       → IsTrueIn normal Brave (1 + word) bit
   mask_in is bit has =
       let s = (is bit).0 has in
-      let few : bit < 64 = s.few in
-      let inside : 64 * word + bit < length normal.names = s.candidate in
-      let cand : ℕ = 64 * word + bit + 1 in
-      let same : cand - 1 ≡ 64 * word + bit = omega arith in
-      let quotient : (64 * word + bit) / 64 ≡ word = omega arith in
-      let rest : (64 * word + bit) % 64 ≡ bit = omega arith in
+      let of = of_bit (length normal.names) word bit s.few s.candidate in
       record {
-        cand = cand;
-        candidate = record { first = omega arith; last = omega arith };
-        word = ap (λ n. 1 + n) (sym (ap (λ n. n / 64) same ∙ quotient));
-        number = sym (ap (λ n. n % 64) same ∙ rest);
+        cand = 64 * word + bit + 1;
+        candidate = record { first = of.first; last = of.last };
+        word = ap (λ n. 1 + n) of.word_is;
+        number = of.bit_is;
         holds = (members, answer, s.shown);
       }
 

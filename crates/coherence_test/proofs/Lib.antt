@@ -7,5 +7,7 @@ pub mod CheckLemmas
 pub mod SelectorLemmas
 pub mod SoundLemmas
 pub mod AskLemmas
+pub mod ZeroLemmas
 pub mod TellLemmas
 pub mod TestLemmas
+pub mod ShareLemmas

@@ -5,3 +5,4 @@ pub mod Asked
 pub mod Selectors
 pub mod Testing
 pub mod Searching
+pub mod Sharing

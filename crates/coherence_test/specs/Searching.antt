@@ -1,9 +1,12 @@
 -- The parts of a test. No public clause cites this module.
 use Rattle.std.specs.Prelude.{◌≡◌, ◌+◌, ℕ, List, [], ◌∷◌, ◌++◌, Some, None, Option, slice_get}
-use Rattle.std.specs.Prelude.{nat_le, length, Bool, ⊤}
+use Rattle.std.specs.Prelude.{nat_le, length, Bool, Contains, ⊤}
 use Rattle.clause_store.specs.declared.literal.Lit.{Lit}
 use Rattle.clause_store.specs.declared.literal.Var.{Var}
+use Rattle.clause_store.specs.declared.literal.Value.TheVariants.{No}
+use Rattle.clause_store.specs.declared.step.Step.{Step}
 use Rattle.clause_store.specs.Clause.{variable}
+use Rattle.clause_store.specs.Trail.{level_of, value_of}
 use Rattle.clause_store.specs.Counted.{Counted}
 use Rattle.normal_program.specs.declared.normal.Normal.{Normal}
 use Rattle.normal_program.specs.Normal.{first_selector}
@@ -69,3 +72,13 @@ HasAsMany limit NoMemory = ⊤
 -- with as many units as the limit
 abbrev pub IsAnsweredAt : ℕ → Counted → Answer → Type 0
 IsAnsweredAt stop after answer = IsCountedRight stop after answer × HasAsMany after.limit answer
+
+-- a literal is false by the assignments of level 0
+pub record IsFalseAtZero (steps : List Step) (lit : Lit) : Type 0 where
+  pub is_false : value_of steps lit ≡ No
+  pub at_zero : level_of steps (variable lit) ≡ Some 0
+
+-- so is one of these
+pub record IsRefusedAtZero (steps : List Step) (lits : List Lit) (lit : Lit) : Type 0 where
+  pub among : Contains lits lit
+  pub refused : IsFalseAtZero steps lit

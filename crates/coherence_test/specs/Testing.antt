@@ -1,7 +1,8 @@
 -- What contracts see of a tester, and what its calls do.
-use Rattle.std.specs.Prelude.{◌≡◌, ◌≤◌, ◌<◌, ◌+◌, ◌⊎◌, ℕ, Bool, false, List, ◌++◌, length, All}
+use Rattle.std.specs.Prelude.{◌≡◌, ◌≤◌, ◌<◌, ◌+◌, ◌⊎◌, ℕ, Bool, false, List, [], ◌++◌, length, All}
 use Rattle.std.specs.Prelude.{Contains, IfSome, Option, None, Some}
 use Rattle.clause_store.specs.declared.literal.Lit.{Lit}
+use Rattle.clause_store.specs.declared.theory_says.Short.{Short}
 use Rattle.clause_store.specs.Clause.{AreOver, HasNoVariableTwice, IsOver}
 use Rattle.clause_store.specs.Counted.{Counted}
 use Rattle.clause_store.specs.Entailment.{AreUnits}
@@ -18,12 +19,24 @@ use Rattle.coherence_test.specs.AnswerSets.{answer_sets, Theorised}
 use Rattle.coherence_test.specs.Selectors.{defined_clauses, IsInUse, MayGive}
 
 -- what contracts see of a tester: its normal form, its clauses, the disjunctions of the selectors
--- in use, in the order of these, and whether it is dead for want of memory
+-- in use, in the order of these, the clauses that are left to be handed on, and whether it is dead
+-- for want of memory
 pub record Testing : Type 0 where
   pub normal : Normal
   pub clauses : List (List Lit)
   pub disjunctions : List (List Lit)
+  pub left : List Short
   pub dead : Bool
+
+-- a tester that was opened: the base clauses, no disjunction, nothing to be handed on
+abbrev pub opened : Normal → Testing
+opened normal = record {
+  normal = normal;
+  clauses = base_clauses normal;
+  disjunctions = [];
+  left = [];
+  dead = false;
+}
 
 -- how many selectors there are
 abbrev pub selectors : Normal → ℕ

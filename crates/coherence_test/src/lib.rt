@@ -5,6 +5,7 @@
 mod asked;
 mod laws;
 mod search;
+mod sharing;
 mod telling;
 mod tester;
 mod theory;

@@ -15,7 +15,7 @@ ghost use Rattle.coherence_test.specs.Testing.{HasAdded, HasCountedUnits, IsSoun
 ghost use Rattle.coherence_test.specs.Testing.{selectors, used_by};
 
 use crate::asked::{Asked, Tested};
-use crate::telling::{core_of, set_on};
+use crate::telling::{core_of, core_of_one, false_at_zero, set_on};
 use crate::theory::AnswerSetTheory;
 use assumption_engine::{Answer, Engine};
 use clause_store::{Budget, Clause, Lit, Units, Var};
@@ -169,7 +169,8 @@ impl<'a> Search<'a> {
         Ok(var)
     }
 
-    /// Asks the engine for an answer set that makes the assumed literals true, and the selector.
+    /// Asks for an answer set that makes the assumed literals true, and the selector. A literal that
+    /// is false by the assignments of level 0 is a core, and the engine isn't asked.
     fn ask_with(
         &mut self,
         alloc: Global,
@@ -202,9 +203,13 @@ impl<'a> Search<'a> {
         ensures disjunctions { self.new.disjunctions ≡ self.old.disjunctions }
         ensures normal { self.new.normal ≡ self.old.normal }
     {
-        match assumed_for(alloc, asked, selector) {
-            Ok(assumed) => self.ask(alloc, assumed.as_slice(), budget, slice),
-            Err(_) => Answer::NoMemory,
+        let Ok(assumed) = assumed_for(alloc, asked, selector) else {
+            return Answer::NoMemory;
+        };
+        self.engine.vouch();
+        match false_at_zero(self.engine.trail(), assumed.as_slice()) {
+            Some(lit) => core_of_one(alloc, lit),
+            None => self.ask(alloc, assumed.as_slice(), budget, slice),
         }
     }
 

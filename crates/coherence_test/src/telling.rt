@@ -1,10 +1,12 @@
 // What an engine's answers tell of answer sets.
-ghost use Rattle.std.specs.Prelude.{◌≡◌, ◌≤◌, ◌<◌, ◌+◌, ◌↔◌, filter, take, Any, IfOk, IsTrue};
+ghost use Rattle.std.specs.Prelude.{◌≡◌, ◌≢◌, ◌≤◌, ◌<◌, ◌+◌, ◌↔◌, ◌∷◌, [], filter, take, All};
+ghost use Rattle.std.specs.Prelude.{Any, IfOk, IfSome, IsTrue, Some};
 ghost use Rattle.clause_store.specs.Clause.{IsOver, variable};
-ghost use Rattle.clause_store.specs.Trail.{is_yes, value_of, values_of};
-ghost use Rattle.coherence_test.specs.Searching.{is_low};
+ghost use Rattle.clause_store.specs.Trail.{is_yes, level_of, value_of, values_of};
+ghost use Rattle.coherence_test.specs.Searching.{IsFalseAtZero, IsRefusedAtZero, is_low};
 
 use crate::asked::Core;
+use assumption_engine::Answer;
 use clause_store::{Clause, Lit, Trail, Value, Var};
 use ground_program::Set;
 use item_list::NoMemory;
@@ -66,4 +68,51 @@ fn has_high(found: &[Lit], greatest: u32) -> bool
     ensures { IsTrue result ↔ Any (λ lit. greatest < variable lit) found.now }
 {
     found.iter().any(|lit| lit.var().0 > greatest)
+}
+
+/// The first literal of a list that is false by the assignments of level 0.
+pub(crate) fn false_at_zero(trail: &Trail, lits: &[Lit]) -> Option<Lit>
+    requires { All (IsOver trail.now.vars) lits.now }
+    ensures { IfSome result (IsRefusedAtZero trail.now.steps lits.now) }
+{
+    trail.vouch();
+    for lit in lits {
+        if is_false_at_zero(trail, *lit) {
+            return Some(*lit);
+        }
+    }
+    None
+}
+
+/// Whether a literal is false by the assignments of level 0.
+fn is_false_at_zero(trail: &Trail, lit: Lit) -> bool
+    requires { IsOver trail.now.vars lit }
+    ensures { IsTrue result → IsFalseAtZero trail.now.steps lit }
+{
+    match trail.value(lit) {
+        Value::No => is_of_level_zero(trail, lit),
+        _ => false,
+    }
+}
+
+/// Whether the variable of a literal was assigned at level 0.
+fn is_of_level_zero(trail: &Trail, lit: Lit) -> bool
+    requires { IsOver trail.now.vars lit }
+    ensures { IsTrue result → level_of trail.now.steps (variable lit) ≡ Some 0 }
+{
+    match trail.level_of(lit.var()) {
+        Some(0) => true,
+        _ => false,
+    }
+}
+
+/// The core of one literal.
+pub(crate) fn core_of_one(alloc: Global, lit: Lit) -> Answer
+    ensures { result ≢ Answer.NoMemory → result ≡ Answer.Core (lit ∷ []) }
+{
+    let mut core = Clause::open();
+    match core.push(alloc, lit) {
+        Ok(()) => Answer::Core(core),
+        Err(_) => Answer::NoMemory,
+    }
 }

@@ -1,22 +1,25 @@
 // Tests of what the answer sets of a normal form meet.
 ghost use Rattle.std.specs.Prelude.{◌≡◌, ◌≢◌, ◌≤◌, ◌<◌, ◌+◌, ◌-◌, ◌++◌, ◌∷◌, [], IfOk, OnErr, OnOk};
-ghost use Rattle.std.specs.Prelude.{false, true};
+ghost use Rattle.std.specs.Prelude.{false, true, option_to_list, IfNone, IfSome};
 ghost use Rattle.std.specs.Prelude.{length};
 ghost use Rattle.normal_program.specs.Clauses.{base_clauses};
 ghost use Rattle.normal_program.specs.Limit.{IsNormal};
+ghost use Rattle.short_clauses.specs.Shareable.{IsShareable};
 ghost use Rattle.coherence_test.specs.Asked.{IsTested, IsTestedAt};
 ghost use Rattle.coherence_test.specs.Selectors.{AreUsed, IsImport};
+ghost use Rattle.coherence_test.specs.Sharing.{HasNoted};
 ghost use Rattle.coherence_test.specs.Testing.{HasAdded, HasCountedUnits, IsPast, MayAsk};
-ghost use Rattle.coherence_test.specs.Testing.{selectors, used_by};
+ghost use Rattle.coherence_test.specs.Testing.{opened, selectors, used_by};
 
 use crate::asked::{Asked, Tested};
 use crate::search::Search;
+use crate::sharing::note;
 use crate::theory::AnswerSetTheory;
 use assumption_engine::Engine;
-use clause_store::{Budget, Lit, Store, Units};
+use clause_store::{Budget, Lit, Short, Store, Units};
 use completion::complete;
 use item_list::NoMemory;
-use normal_program::Normal;
+use normal_program::{Normal, base_clauses_are_entailed, base_clauses_are_over_atoms_and_bodies};
 use std::alloc::Global;
 use std::marker::Model;
 
@@ -25,11 +28,13 @@ use std::marker::Model;
 #[derive(Drop)]
 pub struct Tester<'a> {
     search: Search<'a>,
+    left: Vec<Short>,
     dead: bool,
 }
 
 impl<'a> Model for Tester<'a> {
     ghost use Rattle.coherence_test.specs.Testing.{Testing, IsKept};
+    ghost use Rattle.coherence_test.specs.Sharing.{AreShareable};
 
     ghost Value = { Testing };
 
@@ -37,26 +42,70 @@ impl<'a> Model for Tester<'a> {
       normal = it.search.normal.now;
       clauses = it.search.engine.state.clauses;
       disjunctions = it.search.disjunctions;
+      left = it.left.items;
       dead = it.dead;
     } };
 
     ghost invariant = { λ it.
-        IsKept it.search.normal.now it.search.engine it.search.disjunctions it.dead };
+        IsKept it.search.normal.now it.search.engine it.search.disjunctions it.dead
+        × AreShareable it.search.normal.now it.left.items };
 }
 
 impl<'a> Tester<'a> {
     /// A tester with the base clauses of a normal form.
     pub fn open(alloc: Global, normal: &'a Normal) -> Result<Tester<'a>, NoMemory>
         requires { IsNormal normal.now }
-        ensures { IfOk result (λ it. it ≡ record {
-          normal = normal.now;
-          clauses = base_clauses normal.now;
-          disjunctions = [];
-          dead = false;
-        }) }
+        ensures { IfOk result (λ it. it ≡ opened normal.now) }
     {
         let mut store = Store::open();
         complete(alloc, normal, &mut store)?;
+        Tester::over(alloc, normal, store)
+    }
+
+    /// The same tester, with a copy of the completed store in place of completion.
+    pub fn open_over(
+        alloc: Global,
+        normal: &'a Normal,
+        completed: &Store,
+    ) -> Result<Tester<'a>, NoMemory>
+        requires normal { IsNormal normal.now }
+        requires completed { completed.now ≡ base_clauses normal.now }
+        ensures { IfOk result (λ it. it ≡ opened normal.now) }
+    {
+        let store = completed.copy(alloc)?;
+        Tester::over(alloc, normal, store)
+    }
+
+    /// The same tester, which decides in the order of another tester of the normal form, and as that
+    /// one did last. It takes no clause from there.
+    pub fn open_after(
+        alloc: Global,
+        completed: &Store,
+        other: &Tester<'a>,
+    ) -> Result<Tester<'a>, NoMemory>
+        requires { completed.now ≡ base_clauses other.now.normal }
+        ensures { IfOk result (λ it. it ≡ opened other.now.normal) }
+    {
+        let mut tester = Tester::open_over(alloc, other.search.normal, completed)?;
+        tester.take_after(alloc, other)?;
+        Ok(tester)
+    }
+
+    /// Decides in the order of another tester, and as that one did last.
+    fn take_after(&mut self, alloc: Global, other: &Tester<'a>) -> Result<(), NoMemory>
+        ensures { self.new ≡ self.old }
+    {
+        self.search.engine.take_after(alloc, &other.search.engine)
+    }
+
+    /// A tester with the clauses of a completed store.
+    fn over(alloc: Global, normal: &'a Normal, store: Store) -> Result<Tester<'a>, NoMemory>
+        requires normal { IsNormal normal.now }
+        requires completed { store ≡ base_clauses normal.now }
+        ensures { IfOk result (λ it. it ≡ opened normal.now) }
+    {
+        base_clauses_are_over_atoms_and_bodies();
+        base_clauses_are_entailed();
         let theory = AnswerSetTheory::open(alloc, normal)?;
         let vars = normal.variables();
         let engine = Engine::open(alloc, vars, store, theory)?;
@@ -66,8 +115,17 @@ impl<'a> Tester<'a> {
                 engine,
                 disjunctions: Units::open(),
             },
+            left: Vec::new(alloc),
             dead: false,
         })
+    }
+
+    /// Lets the variables of these literals be decided first, as these literals, until conflicts
+    /// say otherwise. No answer depends on it.
+    pub fn prefer(&mut self, lits: &[Lit])
+        ensures { self.new ≡ self.old }
+    {
+        self.search.engine.prefer(lits);
     }
 
     /// How many disjunctions that are new may still be asked for.
@@ -98,6 +156,7 @@ impl<'a> Tester<'a> {
         ensures err { OnErr result (self.new.dead ≡ true) }
         ensures normal { self.new.normal ≡ self.old.normal }
         ensures disjunctions { self.new.disjunctions ≡ self.old.disjunctions }
+        ensures left { self.new.left ≡ self.old.left }
     {
         if self.dead {
             return Err(NoMemory);
@@ -128,6 +187,10 @@ impl<'a> Tester<'a> {
         ensures counted { HasCountedUnits self.old.normal self.new.disjunctions self.old.clauses
             (used_by asked.now.any self.new.disjunctions) budget.old budget.new }
 
+        // What of it is to be handed on.
+        ensures noted { result ≢ Tested.NoMemory
+            → HasNoted self.old.normal budget.old budget.new self.old.left self.new.left }
+
         ensures used { result ≢ Tested.NoMemory
             → AreUsed self.old.disjunctions asked.now.any self.new.disjunctions }
         ensures alive { result ≢ Tested.NoMemory → self.new.dead ≡ false }
@@ -139,12 +202,28 @@ impl<'a> Tester<'a> {
             return Tested::NoMemory;
         }
         self.dead = true;
+        let before = budget.used() as usize;
         match self.search.test(alloc, asked, budget, slice) {
             Ok(tested) => {
+                let counted = &budget.units().as_slice()[before..];
+                if let Err(_) = note(self.search.normal, counted, &mut self.left) {
+                    return Tested::NoMemory;
+                }
                 self.dead = false;
                 tested
             }
             Err(_) => Tested::NoMemory,
         }
+    }
+
+    /// Gives a clause of one to three literals without a selector that was counted by a test and
+    /// wasn't given before. There is none only where none is left. It takes no memory.
+    pub fn take_shareable(&mut self) -> Option<Short>
+        ensures taken { self.old.left ≡ self.new.left ++ option_to_list result }
+        ensures none { IfNone result (self.old.left ≡ []) }
+        ensures shareable { IfSome result (IsShareable self.old.normal) }
+        ensures same { self.new ≡ record self.old { left = self.new.left } }
+    {
+        self.left.pop()
     }
 }

@@ -1,8 +1,10 @@
 -- Places among assumed literals stay right on a trail that grows and goes back.
 use Rattle.std.proofs.Common.{◌≡◌, ℕ, ◌+◌, ◌≤◌, max, List, [], ◌∷◌, ◌++◌, length, take}
-use Rattle.std.proofs.Common.{get_or, set, sym, ap, ◌∙◌, subst, inl, inr, arith}
-use Rattle.std.specs.Prelude.{All, nat_le, slice_index}
-use Rattle.std.proofs.lemmas.Bool.{cases_eq, cases_lt, le-leb, lt-leb}
+use Rattle.std.proofs.Common.{get_or, set, sym, ap, ◌∙◌, subst, inl, inr, arith, ⊎_elim, Bool}
+use Rattle.std.specs.Prelude.{All, IfNone, nat_le, slice_index}
+use Rattle.std.specs.Bool.{then_some}
+use Rattle.std.proofs.Math.Dec.{ltb}
+use Rattle.std.proofs.lemmas.Bool.{cases_eq, cases_lt, le-leb, lt-leb, le-ltb, lt-ltb}
 use Rattle.std.proofs.lemmas.List.{get_or-set_same, get_or-set_other, set_past, get_or_past}
 use Rattle.std.proofs.lemmas.List.{take_all}
 use Rattle.std.proofs.lemmas.List.Elements.{All-head, All-nil, All-tail, filter-append}
@@ -196,3 +198,14 @@ opens_level steps places assumed decided above before = record { known = at }
 pub all_true : (steps : List Step) (lits : List Lit) (at : ℕ) → length lits ≤ at
     → AreTrueOn steps (take at lits) → AreTrueOn steps lits
 all_true steps lits at past are = subst (AreTrueOn steps) (take_all at lits past) are
+
+-- where no place is next all literals are true
+pub none_past : (steps : List Step) (lits : List Lit) (at : ℕ) → AreTrueOn steps (take at lits)
+    → IfNone (then_some (ltb at (length lits)) at) (AreTrueOn steps lits)
+none_past steps lits at are =
+    ⊎_elim (λ before. subst goal (sym (lt-ltb at (length lits) before)) tt)
+    (λ past. subst goal (sym (le-ltb at (length lits) past)) (all_true steps lits at past are))
+    (cases_lt at (length lits))
+  where
+    goal : Bool → Type 0
+    goal is = IfNone (then_some is at) (AreTrueOn steps lits)

@@ -2,7 +2,7 @@
 // variable that moves leaves a hole, and what it passes moves into the hole, so that each of those
 // is written once. Activities are whole numbers. What one bump adds grows with each conflict, in
 // place of all activities shrinking, and when it gets large all of them are scaled down at once.
-ghost use Rattle.std.specs.Prelude.{◌≡◌, ◌<◌, ◌≤◌, ◌+◌, ◌^◌, All, IfSome, length};
+ghost use Rattle.std.specs.Prelude.{◌≡◌, ◌<◌, ◌≤◌, ◌+◌, ◌^◌, All, IfOk, IfSome, length};
 ghost use Rattle.clause_store.specs.Clause.{IsOver};
 ghost use Rattle.clause_store.specs.Trail.{value_of};
 ghost use Rattle.search_heuristics.specs.Heap.{AreVariables};
@@ -67,6 +67,22 @@ impl ActivityHeap {
             heap,
             count: 0,
             addend: FIRST_ADDEND,
+        })
+    }
+
+    /// The same activities again, and the same heap.
+    pub fn copy(&self, alloc: Global) -> Result<ActivityHeap, NoMemory>
+        ensures { IfOk result (λ it. it ≡ self.now) }
+    {
+        let activities = Vec::from_slice(alloc, self.activities.as_slice())?;
+        let places = Vec::from_slice(alloc, self.places.as_slice())?;
+        let heap = Vec::from_slice(alloc, self.heap.as_slice())?;
+        Ok(ActivityHeap {
+            activities,
+            places,
+            heap,
+            count: self.count,
+            addend: self.addend,
         })
     }
 
@@ -156,15 +172,8 @@ impl ActivityHeap {
         requires { var < self.old.size }
     {
         if self.places[var as usize] as usize >= self.count && self.count < self.heap.len() {
-            let place = self.count;
             self.count += 1;
-            rise(
-                self.heap.as_mut_slice(),
-                self.places.as_mut_slice(),
-                self.activities.as_slice(),
-                place,
-                var,
-            );
+            self.rise_from(self.count - 1, var);
         }
     }
 
@@ -175,14 +184,23 @@ impl ActivityHeap {
     {
         let place = self.places[var as usize] as usize;
         if place < self.count {
-            rise(
-                self.heap.as_mut_slice(),
-                self.places.as_mut_slice(),
-                self.activities.as_slice(),
-                place,
-                var,
-            );
+            self.rise_from(place, var);
         }
+    }
+
+    /// Puts a variable where a hole at a place leaves it when what is less active sinks.
+    fn rise_from(&mut self, place: usize, var: u32)
+        requires place { place < self.old.count }
+        requires var { var < self.old.size }
+        ensures { self.new.size ≡ self.old.size }
+    {
+        rise(
+            self.heap.as_mut_slice(),
+            self.places.as_mut_slice(),
+            self.activities.as_slice(),
+            place,
+            var,
+        );
     }
 
     /// Scales all activities and the addend down. It comes once in some 250 conflicts.

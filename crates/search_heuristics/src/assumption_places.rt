@@ -56,11 +56,7 @@ impl AssumptionPlaces {
         let level = trail.level() as usize;
         let place = first_not_true(trail, assumed, self.place_at(level));
         self.keep(level, place);
-        if place < assumed.len() {
-            Some(place)
-        } else {
-            None
-        }
+        (place < assumed.len()).then_some(place)
     }
 
     /// A level is opened. It is called before the decision comes onto the trail.

@@ -19,7 +19,7 @@ pub struct DecisionOrder {
 
 impl DecisionOrder {
     /// The order of the variables 1 to `vars`: no variable was bumped, and each is decided false.
-    /// All other calls take no memory.
+    /// All other calls but `copy` take no memory.
     pub fn open(alloc: Global, vars: u32) -> Result<DecisionOrder, NoMemory>
         requires { vars < 2 ^ 31 }
     {
@@ -29,6 +29,17 @@ impl DecisionOrder {
             bumped,
             phases,
             passed: 0,
+        })
+    }
+
+    /// The same order again, with the same phases.
+    pub fn copy(&self, alloc: Global) -> Result<DecisionOrder, NoMemory> {
+        let bumped = self.bumped.copy(alloc)?;
+        let phases = Vec::from_slice(alloc, self.phases.as_slice())?;
+        Ok(DecisionOrder {
+            bumped,
+            phases,
+            passed: self.passed,
         })
     }
 

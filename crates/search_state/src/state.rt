@@ -7,6 +7,7 @@ ghost use Rattle.clause_store.specs.Standing.{IsConflict};
 ghost use Rattle.clause_store.specs.Trail.{IsReasonFor, IsTrail, IsTrailOf, present_level, up_to};
 ghost use Rattle.clause_store.specs.Trail.{value_of, with_last};
 ghost use Rattle.propagator.specs.Fixpoint.{Extends, IsFixpoint};
+ghost use Rattle.search_state.specs.State.{decided, gone_back, opened};
 
 use crate::attaching::attach_all;
 use clause_store::{ClauseRef, Lit, Store, Trail, Value};
@@ -42,11 +43,7 @@ impl SearchState {
     pub fn open(alloc: Global, vars: u32, store: Store) -> Result<SearchState, NoMemory>
         requires few { vars < 2 ^ 31 }
         requires over { AreOver vars store }
-        ensures { IfOk result (λ it. it ≡ record {
-          clauses = store;
-          trail = record { vars = vars; steps = [] };
-          dead = false;
-        }) }
+        ensures { IfOk result (λ it. it ≡ opened vars store) }
     {
         let trail = Trail::open(alloc, vars)?;
         let watches = attach_all(alloc, &store, &trail)?;
@@ -130,9 +127,7 @@ impl SearchState {
         requires alive { self.old.dead ≡ false }
         requires over { IsOver self.old.trail.vars lit }
         requires unset { value_of self.old.trail.steps lit ≡ Value.Unset }
-        ensures { self.new ≡ record self.old {
-          trail = with_last self.old.trail lit None (present_level self.old.trail.steps + 1);
-        } }
+        ensures { self.new ≡ decided self.old lit }
     {
         self.trail.decide(lit);
     }
@@ -154,9 +149,7 @@ impl SearchState {
     pub fn back_to(&mut self, level: u32)
         requires alive { self.old.dead ≡ false }
         requires level { level ≤ present_level self.old.trail.steps }
-        ensures steps { self.new ≡ record self.old {
-          trail = record self.old.trail { steps = up_to level self.old.trail.steps };
-        } }
+        ensures steps { self.new ≡ gone_back self.old level }
         ensures level { present_level self.new.trail.steps ≡ level }
     {
         self.trail.back_to(level);

@@ -176,52 +176,31 @@ module _ (steps : List Step) (row : Row) (sized : IsSized row) where
         );
   }
 
-  some_needs : (lit : Lit) (least : ℕ) → value_of steps lit ≡ Unset
-      → not_no_sum steps row.terms < row.bound + least
+  -- an unset literal of that weight
+  some_open : (Q : Value → ℕ → Type 0) (lit : Lit) (least : ℕ) → value_of steps lit ≡ Unset
+      → ((weight : ℕ) → least ≤ weight → Q Unset weight)
       → Any (λ (term : Term). (term.lit ≡ lit) × (least ≤ term.weight)) row.terms
-      → Any
-      (λ term. (term_value steps term ≢ Yes)
-      × (not_no_sum steps row.terms
-      < row.bound + unless_false (term_value steps term) term.weight)) row.terms
-  some_needs lit least unset short (k, term, within, is, (same, enough)) =
-      let open_one : term_value steps term ≡ Unset = ap (value_of steps) same ∙ unset in (
-        k,
-        term,
-        within,
-        is,
-        (
-          λ e. cc,
-          subst (λ v. not_no_sum steps row.terms < row.bound + unless_false v term.weight)
-              (sym open_one) (omega (arith, short, enough)),
-        ),
-      )
-
-  some_refuses : (lit : Lit) (least : ℕ) → value_of steps lit ≡ Unset
-      → row.bound ≤ yes_sum steps row.terms + least
-      → Any (λ (term : Term). (term.lit ≡ lit) × (least ≤ term.weight)) row.terms
-      → Any
-      (λ term. (term_value steps term ≢ No)
-      × (row.bound
-      ≤ yes_sum steps row.terms + unless_true (term_value steps term) term.weight)) row.terms
-  some_refuses lit least unset enough_all (k, term, within, is, (same, enough)) =
-      let open_one : term_value steps term ≡ Unset = ap (value_of steps) same ∙ unset in (
-        k,
-        term,
-        within,
-        is,
-        (
-          λ e. cc,
-          subst (λ v. row.bound ≤ yes_sum steps row.terms + unless_true v term.weight)
-              (sym open_one) (omega (arith, enough_all, enough)),
-        ),
-      )
+      → Any (λ term. Q (term_value steps term) term.weight) row.terms
+  some_open Q lit least unset holds (k, term, within, is, (same, enough)) = (
+    k,
+    term,
+    within,
+    is,
+    subst (λ value. Q value term.weight) (sym (ap (value_of steps) same ∙ unset))
+        (holds term.weight enough),
+  )
 
   pub cause_needs : (lit : Lit) (least : ℕ) → value_of steps (positive row.var.0) ≡ Yes
       → value_of steps lit ≡ Unset → not_no_sum steps row.terms < row.bound + least
       → Any (λ (term : Term). (term.lit ≡ lit) × (least ≤ term.weight)) row.terms
       → IsCause steps row Missed (Some lit)
   cause_needs lit least is_yes unset short some = record {
-    gives = needs is_yes (some_needs lit least unset short some);
+    gives =
+        needs is_yes
+        (some_open
+        (λ value weight. (value ≢ Yes)
+        × (not_no_sum steps row.terms < row.bound + unless_false value weight)) lit least unset
+        (λ weight enough. ((λ e. cc), omega (arith, short, enough))) some);
     enough =
         omega (
           arith,
@@ -238,7 +217,12 @@ module _ (steps : List Step) (row : Row) (sized : IsSized row) where
       → Any (λ (term : Term). (term.lit ≡ lit) × (least ≤ term.weight)) row.terms
       → IsCause steps row Reached (Some lit)
   cause_refuses lit least is_no unset short some = record {
-    gives = refuses is_no (some_refuses lit least unset short some);
+    gives =
+        refuses is_no
+        (some_open
+        (λ value weight. (value ≢ No)
+        × (row.bound ≤ yes_sum steps row.terms + unless_true value weight)) lit least unset
+        (λ weight enough. ((λ e. cc), omega (arith, short, enough))) some);
     enough =
         omega (
           arith,

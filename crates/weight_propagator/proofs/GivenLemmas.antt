@@ -1,12 +1,13 @@
 -- The clause that a cause gives.
-use Rattle.std.proofs.Common.{◌≡◌, ◌≢◌, ◌≤◌, ◌<◌, ◌+◌, ◌%◌, ◌⊎◌, ℕ, zero, suc, Bool, true, false}
+use Rattle.std.proofs.Common.{◌≡◌, ◌≢◌, ◌≤◌, ◌<◌, ◌+◌, ◌%◌, ◌⊎◌, ℕ, Bool, true, false}
 use Rattle.std.proofs.Common.{not}
 use Rattle.std.proofs.Common.{cond, eqb, List, [], ◌∷◌, length, get_or, Option, Some, None, refl}
 use Rattle.std.proofs.Common.{sym, ap, ◌∙◌, subst, inl, inr, arith}
-use Rattle.std.specs.Prelude.{All, Any, AllPairs}
+use Rattle.std.specs.Prelude.{All, Any}
 use Rattle.std.proofs.lemmas.Bool.{eqb-true, false≢true, ne_eqb}
 use Rattle.std.proofs.lemmas.List.{get_or_default}
 use Rattle.std.proofs.lemmas.List.Elements.{All-contains, All-cons, All-head, All-tail}
+use Rattle.std.proofs.lemmas.List.Kept.{AllPairs-cons}
 use Rattle.clause_store.specs.declared.literal.Lit.{Lit}
 use Rattle.clause_store.specs.declared.literal.Value.{Value}
 use Rattle.clause_store.specs.declared.literal.Value.TheVariants.{Yes, No, Unset}
@@ -29,16 +30,6 @@ use Rattle.weight_propagator.specs.Rows.{IsCause, MeansRow, IsGivenBy}
 use Rattle.normal_program.proofs.lemmas.Base.TruthLemmas.{variable-positive, variable-negative}
 use Rattle.normal_program.proofs.lemmas.Base.TruthLemmas.{makes_true-positive, makes_true-negative}
 use Rattle.weight_propagator.proofs.ValueLemmas.{or_cases, unset_same, is_that, variable-denial}
-
--- ---- lists
-
-pub all_pairs_cons : {X : Type 0} (R : X → X → Type 0) (x : X) (xs : List X) → All (R x) xs
-    → AllPairs R xs → AllPairs R (x ∷ xs)
-all_pairs_cons R x xs all pairs zero zero d before within = absurd (omega (arith, before))
-all_pairs_cons R x xs all pairs zero (suc j) d before within = all j d (omega (arith, within))
-all_pairs_cons R x xs all pairs (suc i) zero d before within = absurd (omega (arith, before))
-all_pairs_cons R x xs all pairs (suc i) (suc j) d before within =
-    pairs i j d (omega (arith, before)) (omega (arith, within))
 
 -- where each literal is false or the one that is unset, all are false or all but that one
 pub false_but_one : (trail : Assigned) (clause : List Lit) (unset : Lit)
@@ -197,7 +188,7 @@ module _ (vars : ℕ) (trail : Assigned) (row : Row) (side : Side) (extra : Opti
 
     pub no_twice : HasNoVariableTwice added → HasNoVariableTwice (head side row ∷ added)
     no_twice once =
-        all_pairs_cons (λ one two. variable one ≢ variable two) (head side row) added
+        AllPairs-cons (λ one two. variable one ≢ variable two) (head side row) added
         (λ k d within same.
         let (j, term, inside, at, that) = of_term (get_or added k d) (taken k d within) in
         All-contains (λ (t : Term). variable t.lit ≢ row.var.0) row.terms term is.apart

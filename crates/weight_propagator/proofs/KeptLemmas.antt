@@ -4,6 +4,8 @@ use Rattle.std.proofs.Common.{◌∷◌, length, map, get_or, Option, Some, None
 use Rattle.std.proofs.Common.{subst, inl, inr, arith, ◌⊎◌}
 use Rattle.std.specs.Prelude.{All, Any, Contains, filter, sum_by, if◌then◌else◌}
 use Rattle.std.specs.Prelude.{is_some}
+use Rattle.std.proofs.lemmas.List.Sorted.{Contains-permutation, IsPermutation-sym}
+use Rattle.std.proofs.lemmas.List.Sorted.{sum_by-IsPermutation}
 use Rattle.std.proofs.lemmas.Bool.{cases_Bool, false≢true}
 use Rattle.std.proofs.lemmas.List.Elements.{All-contains, All-contains_itself, All-filter}
 use Rattle.std.proofs.lemmas.List.Sums.{sum_by-cons, get_or-le-sum_by}
@@ -26,6 +28,7 @@ use Rattle.weight_propagator.specs.Gives.GivesBy.{reached, missed, needs, refuse
 use Rattle.weight_propagator.specs.Rows.{term_value, yes_sum, not_no_sum, RowGives, is_kept}
 use Rattle.weight_propagator.specs.Rows.{weight_if, given_weight, term_of, kept_terms, given_sum}
 use Rattle.weight_propagator.specs.Rows.{IsRowFor}
+use Rattle.weight_propagator.proofs.OrderLemmas.{any_permutation}
 
 -- the sum over the kept elements
 pub sum_by-kept : {X Y : Type 0} (p : X → Bool) (g : X → Y) (f : Y → ℕ) (xs : List X)
@@ -173,13 +176,17 @@ module _ (inside : Option (List Bool)) (steps : List Step) (body : BodyOf) (var 
       (λ (part : Part). part.weight) body.parts
       ≡ yes_sum steps row.terms + given_sum inside body.parts
   trues = kept_true_sum inside steps body.parts
-      ∙ ap (λ terms. yes_sum steps terms + given_sum inside body.parts) (sym is.terms)
+      ∙ ap (λ n. n + given_sum inside body.parts)
+      (sym (sum_by-IsPermutation (λ term. if_true (term_value steps term) term.weight)
+      (kept_terms inside body.parts) row.terms is.terms))
 
   opens : open_sum (λ (part : Part). value_in inside steps part.lit)
       (λ (part : Part). part.weight) body.parts
       ≡ not_no_sum steps row.terms + given_sum inside body.parts
   opens = kept_open_sum inside steps body.parts
-      ∙ ap (λ terms. not_no_sum steps terms + given_sum inside body.parts) (sym is.terms)
+      ∙ ap (λ n. n + given_sum inside body.parts)
+      (sym (sum_by-IsPermutation (λ term. unless_false (term_value steps term) term.weight)
+      (kept_terms inside body.parts) row.terms is.terms))
 
   var_value : value_of steps (positive row.var.0) ≡ value_of steps (positive var)
   var_value = ap (λ v. value_of steps (positive v)) is.var
@@ -189,7 +196,7 @@ module _ (inside : Option (List Bool)) (steps : List Step) (body : BodyOf) (var 
       → get_or body.parts k part ≡ part → is_kept inside part ≡ true → P (term_of part)
       → Any P row.terms
   to_term P k part within at keeps holds =
-      subst (Any P) (sym is.terms)
+      any_permutation P (kept_terms inside body.parts) row.terms is.terms
       (kept_any inside body.parts P part (k, within, at) keeps holds)
 
   -- what a body gives, the kept one gives
@@ -268,7 +275,8 @@ module _ (inside : Option (List Bool)) (steps : List Step) (body : BodyOf) (var 
   from_term P Q from (k, term, within, at, holds) =
       let (part, here, keeps, same) =
       kept_from inside body.parts term
-      (subst (λ terms. Contains terms term) is.terms (k, within, at))
+      (Contains-permutation row.terms (kept_terms inside body.parts) term
+      (IsPermutation-sym (kept_terms inside body.parts) row.terms is.terms) (k, within, at))
       in
       any_from Q body.parts part here (from part keeps (subst P (sym same) holds))
 

@@ -4,6 +4,7 @@ pub mod ReasonLemmas
 pub mod CaseLemmas
 pub mod GivenLemmas
 pub mod BodyLemmas
+pub mod OrderLemmas
 pub mod KeptLemmas
 pub mod MeaningLemmas
 pub mod RowsLemmas

@@ -1,11 +1,13 @@
 -- What a kept body means in the extensions of a normal form, so what follows for its clauses.
 use Rattle.std.proofs.Common.{◌≡◌, ◌≤◌, ◌<◌, ◌+◌, ℕ, Bool, true, false, not, List}
 use Rattle.std.proofs.Common.{length, map, get_or, Option, Some, None, slice_get, refl}
-use Rattle.std.proofs.Common.{sym, ap, ◌∙◌, subst, inl, inr, ◌⊎◌, arith, get_or-append-add}
-use Rattle.std.specs.Prelude.{All, Any, Contains, IfSome, sum_by, if◌then◌else◌}
+use Rattle.std.proofs.Common.{sym, ap, ◌∙◌, inl, inr, ◌⊎◌, arith, get_or-append-add}
+use Rattle.std.specs.Prelude.{All, Any, IfSome, sum_by, if◌then◌else◌}
 use Rattle.std.specs.Prelude.{is_some}
 use Rattle.std.proofs.lemmas.Bool.{false≢true, le-leb, lt-leb}
 use Rattle.std.proofs.lemmas.List.{get_or_append_left, get_or-map}
+use Rattle.std.proofs.lemmas.List.Sorted.{Contains-permutation, IsPermutation-sym}
+use Rattle.std.proofs.lemmas.List.Sorted.{sum_by-IsPermutation}
 use Rattle.std.proofs.lemmas.Option.{slice_get_within, get_or_from_slice_get}
 use Rattle.ground_program.specs.Meaning.{has, counts, IsSetOver}
 use Rattle.clause_store.specs.declared.literal.Lit.{Lit}
@@ -120,9 +122,9 @@ module _ (normal : Normal) (inside : Option (List Bool)) (by set : List Bool)
       let weighs : weight_of by set body
       ≡ side_sum Reached (extension normal by set) row.terms + given_sum inside body.parts =
       weight_is body.parts fit.atoms
-      ∙ ap
-      (λ terms. side_sum Reached (extension normal by set) terms + given_sum inside body.parts)
-      (sym is.kept.terms) in
+      ∙ ap (λ n. n + given_sum inside body.parts)
+      (sym (sum_by-IsPermutation (side_weight Reached (extension normal by set))
+      (kept_terms inside body.parts) row.terms is.kept.terms)) in
       let at : truth (extension normal by set) row.var.0 ≡ body_holds by set body =
       ap (truth (extension normal by set)) is.kept.var
       ∙ truth_of_body normal by set size number body is.here in
@@ -162,7 +164,9 @@ module _ (normal : Normal) (inside : Option (List Bool)) (number : ℕ) (body : 
       by lit (inr (k, term, within, at, same)) =
           let (part, here, keeps, that) =
           kept_from inside body.parts term
-          (subst (λ terms. Contains terms term) is.kept.terms (k, within, at)) in
+          (Contains-permutation row.terms (kept_terms inside body.parts) term
+          (IsPermutation-sym (kept_terms inside body.parts) row.terms is.kept.terms)
+          (k, within, at)) in
           inr (
             here.0,
             part,

@@ -1,14 +1,16 @@
 -- The kept bodies of a normal form: how they are made, and what all of them say.
-use Rattle.std.proofs.Common.{◌≡◌, ◌≢◌, ◌≤◌, ◌<◌, ◌+◌, ◌*◌, ℕ, suc, Bool, true, false}
+use Rattle.std.proofs.Common.{◌≡◌, ◌≢◌, ◌≤◌, ◌<◌, ◌+◌, ◌*◌, ℕ, Bool, true, false}
 use Rattle.std.proofs.Common.{cond, List, [], ◌∷◌, ◌++◌, length, map, get_or, take, Option}
 use Rattle.std.proofs.Common.{Some, slice_get, refl, sym, ap, ◌∙◌, subst, inl, inr, arith}
 use Rattle.std.specs.Prelude.{Result, Ok, Err, IfOk}
-use Rattle.std.specs.Prelude.{All, Any, AllPairs, Contains, filter, sum_by, if◌then◌else◌}
-use Rattle.std.proofs.lemmas.Bool.{cases_Bool, cases_eq, false≢true}
+use Rattle.std.specs.Prelude.{All, Any, Contains, filter, sum_by, if◌then◌else◌}
+use Rattle.std.proofs.lemmas.Bool.{cases_eq, false≢true}
 use Rattle.std.proofs.lemmas.List.{append-nil, get_or_default, length-append, map-append}
 use Rattle.std.proofs.lemmas.List.Elements.{All-contains, All-nil, All-push, All-filter, All-map}
 use Rattle.std.proofs.lemmas.List.Elements.{filter_more}
+use Rattle.std.proofs.lemmas.List.Kept.{AllPairs-filter}
 use Rattle.std.proofs.lemmas.List.Quantifiers.{Any-push}
+use Rattle.std.proofs.lemmas.List.Sorted.{All-permutation, sum_by-IsPermutation}
 use Rattle.std.proofs.lemmas.List.Sums.{sum_by_more}
 use Rattle.std.proofs.lemmas.Option.{same_Some, slice_get_within}
 use Rattle.ground_program.specs.declared.program.AtomLit.{AtomLit}
@@ -36,41 +38,11 @@ use Rattle.weight_propagator.specs.Rows.{all_sum, RowGives, IsRow, IsSized, IsGi
 use Rattle.weight_propagator.specs.Rows.{given_weight, term_of, kept_terms, given_sum}
 use Rattle.weight_propagator.specs.Rows.{IsRowOf, IsRowIn, AreRowsTo, AreRows}
 use Rattle.normal_program.proofs.lemmas.Base.TruthLemmas.{variable-literal_of}
-use Rattle.weight_propagator.proofs.GivenLemmas.{all_pairs_cons}
 use Rattle.weight_propagator.proofs.BodyLemmas.{IsFit, normal_body}
 use Rattle.weight_propagator.proofs.CaseLemmas.{sum_by-below}
 use Rattle.weight_propagator.proofs.KeptLemmas.{sum_by-kept, row_gives, body_gives}
+use Rattle.weight_propagator.proofs.OrderLemmas.{all_pairs_map, distinct_permutation}
 use Rattle.weight_propagator.proofs.MeaningLemmas.{follows_for}
-
--- ---- lists
-
--- pairs of those that a filter keeps
-all_pairs_kept : {X : Type 0} (R : X → X → Type 0) (p : X → Bool) (xs : List X) → AllPairs R xs
-    → AllPairs R (filter p xs)
-all_pairs_kept R p [] pairs = λ i j d before within. absurd (omega (arith, within))
-all_pairs_kept R p (x ∷ xs) pairs =
-    let rest : AllPairs R (filter p xs) =
-    all_pairs_kept R p xs
-    (λ i j d before within. pairs (suc i) (suc j) d (omega arith) (omega arith)) in
-    let first : All (R x) (filter p xs) =
-    All-filter p (R x) xs (λ k d within. pairs 0 (suc k) d (omega arith) (omega arith)) in
-    elim (cases_Bool (p x)) [
-      | inl keeps ↦
-          subst (AllPairs R) (sym (ap (λ b. cond b (x ∷ filter p xs) (filter p xs)) keeps))
-          (all_pairs_cons R x (filter p xs) first rest)
-      | inr drops ↦
-          subst (AllPairs R) (sym (ap (λ b. cond b (x ∷ filter p xs) (filter p xs)) drops)) rest
-    ]
-
--- pairs of values of a function
-all_pairs_map : {X Y : Type 0} (R : Y → Y → Type 0) (f : X → Y) (xs : List X)
-    → AllPairs (λ one two. R (f one) (f two)) xs → AllPairs R (map f xs)
-all_pairs_map R f [] pairs = λ i j d before within. absurd (omega (arith, within))
-all_pairs_map R f (x ∷ xs) pairs =
-    all_pairs_cons R (f x) (map f xs)
-    (All-map (R (f x)) f xs (λ k d within. pairs 0 (suc k) d (omega arith) (omega arith)))
-    (all_pairs_map R f xs
-    (λ i j d before within. pairs (suc i) (suc j) d (omega arith) (omega arith)))
 
 -- ---- one body
 
@@ -118,7 +90,8 @@ pub row_is_sound : (inside : Option (List Bool)) (normal : Normal) → IsNormal 
 row_is_sound inside normal is_normal number body row within is =
     let fit : IsFit normal body = normal_body normal is_normal number body is.here in
     let atoms : All (λ (term : Term). IsAtomOf normal (variable term.lit)) row.terms =
-    subst (All (λ (term : Term). IsAtomOf normal (variable term.lit))) (sym is.kept.terms)
+    All-permutation (λ (term : Term). IsAtomOf normal (variable term.lit))
+    (kept_terms inside body.parts) row.terms is.kept.terms
     (All-map (λ (term : Term). IsAtomOf normal (variable term.lit)) term_of
     (filter (is_kept inside) body.parts)
     (All-filter (is_kept inside) (λ part. IsAtomOf normal (variable (literal_of part.lit)))
@@ -127,10 +100,10 @@ row_is_sound inside normal is_normal number body row within is =
     (fit.atoms k d low)))) in
     record {
       distinct =
-          subst (AllPairs (λ (one two : Term). one.lit ≢ two.lit)) (sym is.kept.terms)
+          distinct_permutation (kept_terms inside body.parts) row.terms is.kept.terms
           (all_pairs_map (λ (one two : Term). one.lit ≢ two.lit) term_of
           (filter (is_kept inside) body.parts)
-          (all_pairs_kept (λ (one two : Part). literal_of one.lit ≢ literal_of two.lit)
+          (AllPairs-filter (λ (one two : Part). literal_of one.lit ≢ literal_of two.lit)
           (is_kept inside) body.parts
           (λ i j d before low same.
           let less : rank (get_or body.parts i d).lit < rank (get_or body.parts j d).lit =
@@ -138,6 +111,7 @@ row_is_sound inside normal is_normal number body row within is =
           absurd
           (omega
           (arith, less, same_rank (get_or body.parts i d).lit (get_or body.parts j d).lit same)))));
+      descending = is.kept.descending;
       apart = λ k d low same.
           let atom = atoms k d low in
           absurd (omega (arith, atom.last, same, is.kept.var));
@@ -151,7 +125,8 @@ row_is_sound inside normal is_normal number body row within is =
         few =
             omega (
               arith,
-              ap all_sum is.kept.terms,
+              sum_by-IsPermutation (λ (term : Term). term.weight) (kept_terms inside body.parts)
+                  row.terms is.kept.terms,
               kept_weight inside body.parts,
               fit.few,
               sum_by-below (λ (part : Part). if is_kept inside part then part.weight else 0)
@@ -166,6 +141,7 @@ row_is_sound inside normal is_normal number body row within is =
 pub row_over_more : (few many : ℕ) (row : Row) → few ≤ many → IsRow few row → IsRow many row
 row_over_more few many row more is = record {
   distinct = is.distinct;
+  descending = is.descending;
   apart = is.apart;
   over = λ k d low. let one = is.over k d low in
       record { first = one.first; last = omega (arith, one.last, more) };

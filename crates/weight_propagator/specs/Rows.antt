@@ -3,7 +3,7 @@
 use Rattle.std.specs.Prelude.{◌≡◌, ◌≢◌, ◌≤◌, ◌<◌, ◌+◌, ◌-◌, ◌^◌, ◌⊎◌, ◌==◌, ◌||◌, ℕ, Bool, true}
 use Rattle.std.specs.Prelude.{false, not, if◌then◌else◌, List, ◌++◌, map, filter, All, Any}
 use Rattle.std.specs.Prelude.{AllPairs, Option, None, Some, slice_get, sum_by, length}
-use Rattle.std.specs.Prelude.{IfSome, is_some}
+use Rattle.std.specs.Prelude.{IfSome, is_some, IsPermutation}
 use Rattle.ground_program.specs.declared.program.AtomLit.{AtomLit}
 use Rattle.ground_program.specs.Meaning.{has, IsSetOver}
 use Rattle.clause_store.specs.declared.literal.Lit.{Lit}
@@ -61,11 +61,15 @@ pub record IsSized (row : Row) : Type 0 where
   pub few : all_sum row.terms < 2 ^ 62
   pub full : row.full ≡ all_sum row.terms
 
--- what is true of each kept body: no literal twice, none of them of its variable, and all of them
--- in
--- range
+-- none weighs more than one before it
+abbrev pub IsDescending : List Term → Type 0
+IsDescending terms = AllPairs (λ one two. two.weight ≤ one.weight) terms
+
+-- what is true of each kept body: no literal twice, greater weights first, no literal of its
+-- variable, and all of them in range
 pub record IsRow (vars : ℕ) (row : Row) : Type 0 where
   pub distinct : AllPairs (λ one two. one.lit ≢ two.lit) row.terms
+  pub descending : IsDescending row.terms
   pub apart : All (λ term. variable term.lit ≢ row.var.0) row.terms
   pub over : All (λ term. IsOver vars term.lit) row.terms
   pub first : 1 ≤ row.var.0
@@ -206,7 +210,8 @@ pub record IsRowFor (inside : Option (List Bool)) (body : BodyOf) (number : ℕ)
   where
     pub var : row.var.0 ≡ number
     pub bound : row.bound ≡ body.bound - given_sum inside body.parts
-    pub terms : row.terms ≡ kept_terms inside body.parts
+    pub terms : IsPermutation (kept_terms inside body.parts) row.terms
+    pub descending : IsDescending row.terms
     pub full : row.full ≡ all_sum row.terms
 
 -- a kept body is the weight body of this number

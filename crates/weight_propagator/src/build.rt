@@ -1,9 +1,9 @@
 // The weight bodies of a normal form as they are kept.
-ghost use Rattle.std.specs.Prelude.{◌≡◌, ◌<◌, ◌^◌, All, IfOk, IfSome};
+ghost use Rattle.std.specs.Prelude.{◌≡◌, ◌<◌, ◌^◌, All, IfOk, IfSome, IsPermutation};
 ghost use Rattle.ground_program.specs.Meaning.{IsSetOver};
 ghost use Rattle.normal_program.specs.Body.{full_weight};
 ghost use Rattle.normal_program.specs.Limit.{IsNormal};
-ghost use Rattle.weight_propagator.specs.Rows.{AreRows, IsRowFor, judged};
+ghost use Rattle.weight_propagator.specs.Rows.{AreRows, IsRowFor, IsDescending, judged};
 
 use crate::row::{Row, Term};
 use clause_store::Var;
@@ -55,12 +55,24 @@ fn row_of(alloc: Global, body: &BodyOf, var: Var, inside: &Option<Set>) -> Resul
             Some(false) => {}
         }
     }
+    let terms = descending(alloc, terms.as_slice())?;
     Ok(Row {
         var,
         bound,
         full,
         terms,
     })
+}
+
+// The literals, greater weights first. Those of one weight stay in their order.
+fn descending(alloc: Global, terms: &[Term]) -> Result<List<Term>, NoMemory>
+    ensures same { IfOk result (IsPermutation terms.now) }
+    ensures order { IfOk result IsDescending }
+{
+    let mut sorted = Vec::from_slice(alloc, terms)?;
+    sorted.sort_by(|one, two| two.weight.cmp(&one.weight))?;
+    let terms = List::from_slice(alloc, &sorted)?;
+    Ok(terms)
 }
 
 // What a set makes of a literal. None is a literal that the trail judges.

@@ -113,7 +113,8 @@ impl Row {
         }
     }
 
-    // The first unset literal that weighs at least so much.
+    // The unset literal of greatest weight, where that is at least so much. Behind a literal that
+    // weighs less none is looked at.
     fn unset_of(&self, trail: &Trail, least: u64) -> Option<Lit>
         requires { IsRow trail.now.vars self.now }
         ensures none { IfNone result (All
@@ -124,7 +125,10 @@ impl Row {
             (λ term. (term.lit ≡ lit) × (least ≤ term.weight)) self.now.terms) }
     {
         for term in self.terms.as_slice() {
-            if term.weight >= least && matches!(trail.value(term.lit), Value::Unset) {
+            if term.weight < least {
+                return None;
+            }
+            if let Value::Unset = trail.value(term.lit) {
                 return Some(term.lit);
             }
         }

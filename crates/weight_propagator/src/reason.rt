@@ -11,7 +11,7 @@ use item_list::NoMemory;
 use std::alloc::Global;
 
 /// Puts denials of literals last that are on the side, and that of the extra one, until they decide
-/// the variable.
+/// the variable. Greater weights come first, so that no fewer of them would do.
 pub fn collect(
     alloc: Global,
     row: &Row,

@@ -24,7 +24,7 @@ pub struct Row {
     pub bound: u64,
     /// The sum of all weights.
     pub full: u64,
-    /// The literals with their weights.
+    /// The literals with their weights, greater weights first.
     pub terms: List<Term>,
 }
 

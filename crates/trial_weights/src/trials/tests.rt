@@ -25,10 +25,10 @@ fn said(alloc: Global, text: &[u8], lit: Lit, out: &mut Clause) -> Result<Option
     Ok(Some(says))
 }
 
-/// Whether the literals are 5 and 12 in some order.
-fn is_that(clause: &[Lit]) -> bool {
+/// Whether the literals are these two in some order.
+fn is_pair(clause: &[Lit], yes: u32, no: u32) -> bool {
     match clause {
-        [one, two] => (one.0 == 5 && two.0 == 12) || (one.0 == 12 && two.0 == 5),
+        [one, two] => (one.0 == yes && two.0 == no) || (one.0 == no && two.0 == yes),
         _ => false,
     }
 }
@@ -36,7 +36,7 @@ fn is_that(clause: &[Lit]) -> bool {
 fn a_true_atom_reaches(alloc: Global) -> Result<bool, NoMemory> {
     let mut out = Clause::open();
     let says = said(alloc, CHOICE, Lit(4), &mut out)?;
-    Ok(matches!(says, Some(Says::Clause)) && is_that(out.as_slice()))
+    Ok(matches!(says, Some(Says::Clause)) && is_pair(out.as_slice(), 12, 5))
 }
 
 #[test]
@@ -57,10 +57,35 @@ fn a_literal_twice_makes_no_weight_body(rt: HostRuntime) -> Result<(), Fail> {
     Ok(())
 }
 
+// The atoms 2 to 5 may be chosen, and 6 holds where 2, 3 and 4 with weight 1 and 5 with weight 3
+// reach 3. Variable 8 is that of the weight body.
+static ASCENDING: &[u8] = b"3 4 2 3 4 5 0 0\n5 6 3 4 0 2 3 4 5 1 1 1 3\n0\n0\nB+\n0\nB-\n1\n0\n1\n";
+
+fn the_heaviest_is_the_reason(alloc: Global) -> Result<bool, NoMemory> {
+    let Some(normal) = normal_of(alloc, ASCENDING) else {
+        return Ok(false);
+    };
+    let mut scene = Scene::open(alloc, normal)?;
+    scene.decide(Lit(4));
+    scene.decide(Lit(6));
+    scene.decide(Lit(8));
+    scene.decide(Lit(10));
+    let mut out = Clause::open();
+    let says = scene.ask(alloc, &mut out)?;
+    Ok(matches!(says, Says::Clause) && is_pair(out.as_slice(), 16, 11))
+}
+
+#[test]
+fn a_reason_takes_the_greatest_weights_first(rt: HostRuntime) -> Result<(), Fail> {
+    // The first three true literals reach the bound as well, but the last one does so alone.
+    assert!(rt; the_heaviest_is_the_reason(rt.alloc())?);
+    Ok(())
+}
+
 // Weight bodies with a weight 0, an atom and its negation, bounds of 0 and above all weights, and
 // literals that stand in several bodies.
 static PROGRAMS: [&[u8]; 3] = [
-    b"5 2 3 4 2 3 4 5 6 1 0 2 3\n5 3 4 3 1 5 6 2 2 1 4\n2 7 3 0 2 2 4 5\n0\n0\nB+\n0\nB-\n1\n0\n1\n",
+    b"5 2 3 4 2 3 4 5 6 1 0 2 3\n5 3 4 3 1 5 6 2 2 1 4\n2 7 2 0 1 2 4\n0\n0\nB+\n0\nB-\n1\n0\n1\n",
     b"5 2 2 3 1 3 3 4 1 2 1\n5 5 0 2 1 3 4 1 1\n5 6 90 2 1 3 4 40 40\n0\n0\nB+\n0\nB-\n1\n0\n1\n",
     b"2 2 4 2 3 3 4 5 6\n2 3 4 1 2 2 4 6 7\n5 4 7 4 2 5 6 7 8 0 3 4 5\n0\n0\nB+\n0\nB-\n1\n0\n1\n",
 ];

@@ -1,8 +1,10 @@
 use Rattle.std.proofs.Common.{◌≡◌, ◌<◌, ◌-◌, ◌^◌, ◌∙◌, false}
 use Rattle.std.proofs.Common.{List, take, take_all, sum_by, refl, sym, ap, subst, arith}
-use Rattle.std.specs.Prelude.{if◌then◌else◌}
+use Rattle.std.specs.Prelude.{if◌then◌else◌, IsPermutation}
+use Rattle.std.proofs.lemmas.List.Sorted.{sum_by-IsPermutation}
 use Rattle.std.proofs.lemmas.List.Sums.{sum_by_more_le_part}
 use Rattle.normal_program.specs.declared.normal.Part.{Part}
+use Rattle.weight_propagator.specs.declared.row.Term.{Term}
 use Rattle.weight_propagator.specs.Rows.{is_kept, kept_terms, given_sum}
 use Rattle.weight_propagator.specs.Rows.{all_sum}
 use Rattle.weight_propagator.proofs.RowsLemmas.{at_most_part, kept_weight}
@@ -31,12 +33,19 @@ returns c =
     let all : take c.loop-part.part-index items ≡ c.args.body.now.parts =
     take_all c.loop-part.part-index items c.loop-part-test.false
     ∙ c.as_slice-part-items.ensures in
+    let kept : c.loop-part.terms ≡ kept_terms inside c.args.body.now.parts =
+    c.loop-part.invariant.terms ∙ ap (kept_terms inside) all in
     record {
       var = refl;
       bound = c.loop-part.invariant.bound
           ∙ ap (λ parts. c.args.body.now.bound - given_sum inside parts) all;
-      terms = c.loop-part.invariant.terms ∙ ap (kept_terms inside) all;
+      terms =
+          subst (λ terms. IsPermutation terms c.in_ok-terms.terms)
+          (c.as_slice.ensures ∙ kept) c.in_ok-terms.ensures.same;
+      descending = c.in_ok-terms.ensures.order;
       full = c.loop-part.invariant.full
           ∙ sym (kept_weight inside (take c.loop-part.part-index items))
-          ∙ ap all_sum (sym c.loop-part.invariant.terms);
+          ∙ ap all_sum (sym c.loop-part.invariant.terms ∙ sym c.as_slice.ensures)
+          ∙ sym (sum_by-IsPermutation (λ (term : Term). term.weight) c.as_slice.result.now
+          c.in_ok-terms.terms c.in_ok-terms.ensures.same);
     }

@@ -12,34 +12,31 @@ use Rattle.anytime_core.proofs.StepLemmas.{kept, twice}
 use Rattle.anytime_core.proofs.machine.Core.step.Goals as goal
 
 pub invariant_of-self : goal.invariant_of-self
-invariant_of-self c =
-    let i = c.self.invariant in (
-      i.0,
-      i.1,
-      i.2,
-      kept c.args.self.now _ c.args.event (search rules) (subst IsSound c.self.view_is i.3)
-          c.requires.legal,
-    )
+invariant_of-self c = (
+  c.self.invariant.0,
+  c.self.invariant.1,
+  c.self.invariant.2,
+  kept c.args.self.now _ c.args.event (search rules) (subst IsSound c.self.view_is c.self.invariant.3)
+      c.requires.legal,
+)
 
 pub invariant_of-self-in-ReportOut : goal.invariant_of-self-in-ReportOut
-invariant_of-self-in-ReportOut c =
-    let i = c.self.invariant in (
-      i.0,
-      i.1,
-      i.2,
-      kept c.args.self.now _ c.args.event (search rules) (subst IsSound c.self.view_is i.3)
-          c.requires.legal,
-    )
+invariant_of-self-in-ReportOut c = (
+  c.self.invariant.0,
+  c.self.invariant.1,
+  c.self.invariant.2,
+  kept c.args.self.now _ c.args.event (search rules) (subst IsSound c.self.view_is c.self.invariant.3)
+      c.requires.legal,
+)
 
 pub invariant_of-self-in-ReportState : goal.invariant_of-self-in-ReportState
-invariant_of-self-in-ReportState c =
-    let i = c.self.invariant in (
-      i.0,
-      i.1,
-      i.2,
-      kept c.args.self.now _ c.args.event (search rules) (subst IsSound c.self.view_is i.3)
-          c.requires.legal,
-    )
+invariant_of-self-in-ReportState c = (
+  c.self.invariant.0,
+  c.self.invariant.1,
+  c.self.invariant.2,
+  kept c.args.self.now _ c.args.event (search rules) (subst IsSound c.self.view_is c.self.invariant.3)
+      c.requires.legal,
+)
 
 pub returns-in-ReadWord : goal.returns-in-ReadWord
 returns-in-ReadWord c =
@@ -59,34 +56,31 @@ returns-in-ReadWord c =
     ∙ ap (λ (m : Machine). after m c.args.event) c.self.view_is
 
 pub invariant_of-self-in-ReadWord : goal.invariant_of-self-in-ReadWord
-invariant_of-self-in-ReadWord c =
-    let i = c.self.invariant in (
-      i.0,
-      i.1,
-      i.2,
-      kept c.args.self.now _ c.args.event (returns-in-ReadWord c)
-          (subst IsSound c.self.view_is i.3) c.requires.legal,
-    )
+invariant_of-self-in-ReadWord c = (
+  c.self.invariant.0,
+  c.self.invariant.1,
+  c.self.invariant.2,
+  kept c.args.self.now _ c.args.event (returns-in-ReadWord c)
+      (subst IsSound c.self.view_is c.self.invariant.3) c.requires.legal,
+)
 
 pub invariant_of-self-in-Append : goal.invariant_of-self-in-Append
-invariant_of-self-in-Append c =
-    let i = c.self.invariant in (
-      i.0,
-      search rules,
-      search rules,
-      kept c.args.self.now _ c.args.event (search rules) (subst IsSound c.self.view_is i.3)
-          c.requires.legal,
-    )
+invariant_of-self-in-Append c = (
+  c.self.invariant.0,
+  search rules,
+  search rules,
+  kept c.args.self.now _ c.args.event (search rules) (subst IsSound c.self.view_is c.self.invariant.3)
+      c.requires.legal,
+)
 
 pub invariant_of-self-in-Copy : goal.invariant_of-self-in-Copy
-invariant_of-self-in-Copy c =
-    let i = c.self.invariant in (
-      i.0,
-      i.1,
-      i.2,
-      kept c.args.self.now _ c.args.event (search rules) (subst IsSound c.self.view_is i.3)
-          c.requires.legal,
-    )
+invariant_of-self-in-Copy c = (
+  c.self.invariant.0,
+  c.self.invariant.1,
+  c.self.invariant.2,
+  kept c.args.self.now _ c.args.event (search rules) (subst IsSound c.self.view_is c.self.invariant.3)
+      c.requires.legal,
+)
 
 pub returns-in-Meet : goal.returns-in-Meet
 returns-in-Meet c =
@@ -105,11 +99,10 @@ returns-in-Meet c =
     ∙ ap (λ (m : Machine). after m c.args.event) c.self.view_is
 
 pub invariant_of-self-in-Meet : goal.invariant_of-self-in-Meet
-invariant_of-self-in-Meet c =
-    let i = c.self.invariant in (
-      i.0,
-      i.1,
-      i.2,
-      kept c.args.self.now _ c.args.event (returns-in-Meet c)
-          (subst IsSound c.self.view_is i.3) c.requires.legal,
-    )
+invariant_of-self-in-Meet c = (
+  c.self.invariant.0,
+  c.self.invariant.1,
+  c.self.invariant.2,
+  kept c.args.self.now _ c.args.event (returns-in-Meet c)
+      (subst IsSound c.self.view_is c.self.invariant.3) c.requires.legal,
+)

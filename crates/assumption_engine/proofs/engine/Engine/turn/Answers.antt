@@ -4,7 +4,7 @@ use Rattle.clause_store.specs.declared.step.Step.{Step}
 use Rattle.clause_store.specs.Clause.{IsOver}
 use Rattle.search_heuristics.specs.Places.{AreTrueBefore}
 use Rattle.clause_store.specs.Trail.{present_level}
-use Rattle.assumption_engine.specs.Task.{IsTask, MayDecide, MustRefuse}
+use Rattle.assumption_engine.specs.Task.{MayDecide, MustRefuse}
 use Rattle.assumption_engine.specs.declared.answer.Answer.TheVariants.{Core}
 use Rattle.assumption_engine.specs.declared.answer.Turn.TheVariants.{Going, Ended}
 use Rattle.assumption_engine.proofs.AnswerLemmas.{core_of, room_below}
@@ -13,7 +13,7 @@ use Rattle.assumption_engine.proofs.SameLemmas.{same_itself, same_then}
 use Rattle.assumption_engine.proofs.StepLemmas.{kept_places}
 use Rattle.assumption_engine.proofs.StepLemmas.{counted_on, goes_on_propagated, may_turn_on}
 use Rattle.assumption_engine.proofs.StepLemmas.{order_propagated, turned_decided, turned_given}
-use Rattle.assumption_engine.proofs.StepLemmas.{if_turned_on, turned_learned, turned_on}
+use Rattle.assumption_engine.proofs.StepLemmas.{task_read, if_turned_on, turned_learned, turned_on}
 use Rattle.assumption_engine.proofs.StepLemmas.{turned_still}
 use Rattle.assumption_engine.proofs.engine.Engine.turn.Goals as goal
 
@@ -83,11 +83,7 @@ returns-in-Take-clause-turn g c =
 pub core-requires-clause-over : goal.core-requires-clause-over
 core-requires-clause-over g c =
     let task : MustRefuse c.args.assumed.now c.next_task.new.self.state.trail.steps
-    c.in-Refuse.lit =
-    subst
-    (IsTask (g.T.Theory.meaning c.next_task.new.self.theory) c.args.assumed.now
-    c.next_task.new.self.state c.next_task.new.self.given) c.in-Refuse.is
-    c.in_ok-conflict.ensures.task in
+    c.in-Refuse.lit = task_read _ _ _ _ _ _ c.in-Refuse.is c.in_ok-conflict.ensures.task in
     let may =
     may_turn_on c.next_task.ensures.propagated c.in_ok-conflict.ensures.right c.requires.may in
     All-contains (IsOver c.next_task.new.self.state.trail.vars) c.args.assumed.now c.in-Refuse.lit
@@ -106,11 +102,7 @@ returns-in_ok-core-in-Refuse-clause-counted g c =
 pub returns-in_ok-core-in-Refuse-clause-turn : goal.returns-in_ok-core-in-Refuse-clause-turn
 returns-in_ok-core-in-Refuse-clause-turn g c =
     let task : MustRefuse c.args.assumed.now c.next_task.new.self.state.trail.steps
-    c.in-Refuse.lit =
-    subst
-    (IsTask (g.T.Theory.meaning c.next_task.new.self.theory) c.args.assumed.now
-    c.next_task.new.self.state c.next_task.new.self.given) c.in-Refuse.is
-    c.in_ok-conflict.ensures.task in
+    c.in-Refuse.lit = task_read _ _ _ _ _ _ c.in-Refuse.is c.in_ok-conflict.ensures.task in
     turned_on (g.T.Theory.meaning c.next_task.new.self.theory)
     (g.T.Theory.followed c.next_task.new.self.theory)
     c.next_task.new.self.defined c.args.assumed.now c.args.stop c.next_task.new.self.state
@@ -140,10 +132,7 @@ pub returns-in-Decide-clause-turn : goal.returns-in-Decide-clause-turn
 returns-in-Decide-clause-turn g c =
     let task : MayDecide c.next_task.new.self.state.clauses c.args.assumed.now
     c.next_task.new.self.state.trail c.in-Decide.lit =
-    subst
-    (IsTask (g.T.Theory.meaning c.next_task.new.self.theory) c.args.assumed.now
-    c.next_task.new.self.state c.next_task.new.self.given) c.in-Decide.is
-    c.in_ok-conflict.ensures.task in
+    task_read _ _ _ _ _ _ c.in-Decide.is c.in_ok-conflict.ensures.task in
     turned_on (g.T.Theory.meaning c.next_task.new.self.theory)
     (g.T.Theory.followed c.next_task.new.self.theory)
     c.next_task.new.self.defined c.args.assumed.now c.args.stop c.decide.new.self

@@ -1,32 +1,18 @@
-use Rattle.std.proofs.Common.{◌<◌, ◌-◌, ◌/◌, ℕ, length, sym, subst, arith}
-use Rattle.std.proofs.lemmas.Nat.Bits.{bit_at-pow_same}
-use Rattle.normal_program.specs.declared.normal.Normal.{Normal}
-use Rattle.anytime_core.specs.Bits.{HasBit, words_for, all_words, in_place, bit_of}
+use Rattle.std.proofs.Common.{subst}
+use Rattle.anytime_core.specs.Bits.{HasBit, in_place}
 use Rattle.bounds_board.specs.Board.{normal_of, mode_of, view_of}
-use Rattle.bounds_board.proofs.ReportLemmas.{holds_mask, power_fits, one_in, word_exists}
+use Rattle.bounds_board.proofs.ReportLemmas.{holds_candidate, mask_is, one_in, in_within}
 use Rattle.bounds_board.proofs.board.Board.report_in.Goals as goal
 
 pub put_in-requires-clause-bits : goal.put_in-requires-clause-bits
 put_in-requires-clause-bits c bit has =
-    let few : bit_of c.args.cand < 64 = omega arith in
     one_in (normal_of c.args.self.now) (mode_of c.args.self.now) c.args.cand c.requires.cand
-    c.requires.holds bit
-    (subst (λ n. HasBit n bit) (power_fits (bit_of c.args.cand) few) has)
+    c.requires.holds bit (subst (λ n. HasBit n bit) (mask_is c.args.cand) has)
 
 pub returns-clause-reported : goal.returns-clause-reported
 returns-clause-reported c =
-    let cand : ℕ = c.args.cand in
-    let normal = normal_of c.args.self.now in
-    let few : bit_of cand < 64 = omega arith in
-    let exists =
-    word_exists (length normal.names) cand c.requires.cand.first c.requires.cand.last in
-    let side : ℕ = words_for (length normal.names) in
-    let within : in_place cand < all_words (length normal.names) =
-    (let less : (cand - 1) / 64 < side = exists in omega arith) in
     let met = c.put_in.ensures.met in
-    holds_mask (view_of c.args.seat.now) (view_of c.put_in.new.seat) _ (in_place cand) met.0 _
-    (bit_of cand) met.1 c.put_in.ensures.viewed.0
-    (subst (λ (n : Normal). in_place cand < all_words (length n.names))
-    (sym c.requires.seat.about) within)
-    (subst (λ n. HasBit n (bit_of cand)) (sym (power_fits (bit_of cand) few))
-    (bit_at-pow_same (bit_of cand)))
+    holds_candidate (normal_of c.args.self.now) (view_of c.args.seat.now)
+    (view_of c.put_in.new.seat) _ (in_place c.args.cand) met.0 c.args.cand
+    met.1 c.put_in.ensures.viewed.0 c.requires.seat.about
+    (in_within (normal_of c.args.self.now).names c.args.cand c.requires.cand)

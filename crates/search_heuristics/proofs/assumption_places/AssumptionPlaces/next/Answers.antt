@@ -1,4 +1,5 @@
 use Rattle.std.proofs.Common.{◌∙◌, sym, ap, subst, slice_index, slice_set, take}
+use Rattle.std.specs.Prelude.{IfNone}
 use Rattle.search_heuristics.specs.Places.{AreTrueBefore, AreTrueOn}
 use Rattle.search_heuristics.proofs.PlaceLemmas as lemma
 use Rattle.search_heuristics.proofs.assumption_places.AssumptionPlaces.next.Goals as goal
@@ -11,8 +12,8 @@ first_not_true-place-requires-clause-before c =
     (lemma.before_present c.args.assumed.now c.args.trail.now.steps c.args.self.now
     c.requires.before)
 
-pub returns-then-place-assumed-clause-before : goal.returns-then-place-assumed-clause-before
-returns-then-place-assumed-clause-before c =
+pub returns-clause-before : goal.returns-clause-before
+returns-clause-before c =
     subst (AreTrueBefore c.args.assumed.now c.args.trail.now.steps)
     (sym
     (c.keep.ensures
@@ -21,17 +22,9 @@ returns-then-place-assumed-clause-before c =
     (lemma.before_kept c.args.assumed.now c.args.trail.now.steps c.args.self.now
     c.first_not_true-place.result c.requires.before c.first_not_true-place.ensures.before)
 
-pub returns-else-place-assumed-clause-before : goal.returns-else-place-assumed-clause-before
-returns-else-place-assumed-clause-before c =
-    subst (AreTrueBefore c.args.assumed.now c.args.trail.now.steps)
-    (sym
-    (c.keep.ensures
-    ∙ ap (λ level. slice_set c.args.self.now level c.first_not_true-place.result)
-    c.level-level.ensures.level))
-    (lemma.before_kept c.args.assumed.now c.args.trail.now.steps c.args.self.now
-    c.first_not_true-place.result c.requires.before c.first_not_true-place.ensures.before)
-
-pub returns-else-place-assumed-clause-none : goal.returns-else-place-assumed-clause-none
-returns-else-place-assumed-clause-none c =
-    lemma.all_true c.args.trail.now.steps c.args.assumed.now c.first_not_true-place.result
-    c.if-place-assumed.false c.first_not_true-place.ensures.before
+pub returns-clause-none : goal.returns-clause-none
+returns-clause-none c =
+    subst (λ at. IfNone at (AreTrueOn c.args.trail.now.steps c.args.assumed.now))
+    (sym c.then_some.ensures)
+    (lemma.none_past c.args.trail.now.steps c.args.assumed.now c.first_not_true-place.result
+    c.first_not_true-place.ensures.before)

@@ -1,0 +1,2 @@
+mod MakingLemmas
+pub mod ShareableLemmas
