@@ -26,6 +26,8 @@ pub enum Tested {
     Found(Set),
     /// No answer set meets this part of what was asked.
     Core(Core),
+    /// As many clauses were counted as one call may, and the budget isn't used up.
+    Paused,
     /// The budget is used up.
     Spent,
     /// The budget of the test of one answer set is used up.
@@ -35,8 +37,6 @@ pub enum Tested {
         /// The clauses that its test learned.
         units: Units,
     },
-    /// As many clauses were counted as one call may, and the budget isn't used up.
-    Paused,
     /// Memory ran out.
     NoMemory,
 }

@@ -122,7 +122,7 @@ impl<'a> AnswerSetTheory<'a> {
         trail.vouch();
         match self.look(alloc, trail, out)? {
             Says::Clause => Ok(Check::Clause),
-            Says::Quiet if self.disjunctive => self.judge_parts(alloc, trail, out, limit),
+            Says::Quiet if self.disjunctive => self.judge_parts(alloc, trail, limit, out),
             Says::Quiet => Ok(Check::Accept),
         }
     }
@@ -133,8 +133,8 @@ impl<'a> AnswerSetTheory<'a> {
         &mut self,
         alloc: Global,
         trail: &Trail,
-        out: &mut Clause,
         limit: u32,
+        out: &mut Clause,
     ) -> Result<Check, NoMemory>
         requires candidate { IsCandidate self.old.normal trail.now }
         requires disjunctive { IsDisjunctive self.old.normal }
