@@ -71,14 +71,11 @@ module _ (normal : Normal) (disjunctions : List (List Lit)) (clause : List Lit) 
       → (IsTrue said ↔ HoldsFrom normal disjunctions clause without)
       → IfOk result (λ last. IsTrue last ↔ HoldsFrom normal disjunctions clause taken)
       → IfOk result (λ last. IsTrue last ↔ HoldsFrom normal disjunctions clause start)
-  taken_exactly (Ok last) start without taken said short without_is taken_is holds yes_is last_is =
-  (
-    λ told. either_bit start without taken short without_is taken_is (yes_is.0 holds)
-        (last_is.0 told),
-    λ every. last_is.1 (with_bit start taken true taken_is every),
+  taken_exactly (Ok last) start without taken said short without_is taken_is holds one two = (
+    λ told. either_bit start without taken short without_is taken_is (one.0 holds) (two.0 told),
+    λ every. two.1 (with_bit start taken true taken_is every),
   )
-  taken_exactly (Err cause) start without taken said short without_is taken_is holds yes_is
-      last_is = tt
+  taken_exactly (Err cause) start without taken said short without_is taken_is holds one two = tt
 
   -- what holds for all sets that begin with no value holds for all sets
   entailed_exactly : {E : Type 0} (result : Result Bool E)
