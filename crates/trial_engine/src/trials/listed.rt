@@ -1,7 +1,7 @@
 // Theories that are lists of clauses. They give them at the end or late.
 ghost use Rattle.std.specs.Prelude.{◌≡◌, ◌≢◌, ◌↔◌, [], All, Contains, IfOk, IfSome, IfNone};
 ghost use Rattle.std.specs.Prelude.{IsTrue, false, length};
-ghost use Rattle.clause_store.specs.Clause.{IsOver};
+ghost use Rattle.clause_store.specs.Clause.{AreOver, IsOver};
 ghost use Rattle.clause_store.specs.Standing.{IsFalse, IsFalseOn};
 ghost use Rattle.clause_store.specs.Trail.{value_of};
 ghost use Rattle.propagator.specs.Fixpoint.{IsQuietOn};
@@ -102,11 +102,10 @@ impl Theory for Listed {
         trail: &Trail,
         out: &mut Clause,
     ) -> Result<Says, NoMemory> {
-        if self.is_time() {
-            find(alloc, trail, self.clauses.as_slice(), out)
-        } else {
-            Ok(Says::Quiet)
+        if !self.is_time() {
+            return Ok(Says::Quiet);
         }
+        find(alloc, trail, self.clauses.as_slice(), out)
     }
 
     fn complete_check(
@@ -167,7 +166,7 @@ fn find(
     clauses: &[Clause],
     out: &mut Clause,
 ) -> Result<Says, NoMemory>
-    requires { All (IsClauseOver trail.now.vars) clauses.now }
+    requires { AreOver trail.now.vars clauses.now }
     ensures { IfOk result (HasFound clauses.now trail.now.steps out.new) }
 {
     for clause in clauses {
