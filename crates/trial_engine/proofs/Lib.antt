@@ -1,1 +1,2 @@
 mod ToldLemmas
+mod SceneLemmas

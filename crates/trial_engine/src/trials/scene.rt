@@ -160,19 +160,19 @@ fn engine_of(
     ensures { IfOk result
         (λ it. IsSound it.theory it.state it.defined it.dead listed.now) }
 {
-    let store = store_of(alloc, vars, base)?;
+    let store = store_of(alloc, vars, base.as_slice())?;
     let again = listed.copy(alloc)?;
     let theory = Listed::of(vars, &store, again, manner);
     Engine::open(alloc, vars, store, theory)
 }
 
 /// A store with these clauses.
-fn store_of(alloc: Global, vars: u32, clauses: &Units) -> Result<Store, NoMemory>
+fn store_of(alloc: Global, vars: u32, clauses: &[Clause]) -> Result<Store, NoMemory>
     requires { All (IsClauseOver vars) clauses.now }
     ensures { IfOk result (AreOver vars) }
 {
     let mut store = Store::open();
-    for clause in clauses.as_slice() {
+    for clause in clauses {
         store.add(alloc, clause.as_slice())?;
     }
     Ok(store)
