@@ -5,3 +5,4 @@ mod clauses;
 mod listed;
 mod scene;
 mod unit_checks;
+mod units;

@@ -1,4 +1,5 @@
-// Questions whose answers are compared with what all assignments say.
+// Questions whose answers are compared with what is known or with what all assignments say.
+use crate::trials::clauses::lits_of;
 use crate::trials::scene::Scene;
 use assumption_engine::Answer;
 use clause_store::Lit;
@@ -65,4 +66,74 @@ fn judged(scene: &Scene, assumed: &[Lit], answer: &Answer, stop: u32) -> Part {
     } else {
         Part::Wrong
     }
+}
+
+/// Which answer it is.
+#[derive(Debug, Drop, Clone, Copy, PartialEq, Eq)]
+pub enum Kind {
+    /// A model.
+    Model,
+    /// A core.
+    Core,
+    /// The limit is used up.
+    Spent,
+    /// A check is spent.
+    SpentInside,
+    /// A slice is used up.
+    Paused,
+    /// Memory ran out.
+    NoMemory,
+}
+
+/// Which answer comes.
+pub fn asks(
+    alloc: Global,
+    scene: &mut Scene,
+    assumed: &[Lit],
+    slice: u32,
+) -> Result<Kind, NoMemory> {
+    let answer = scene.ask(alloc, assumed, slice)?;
+    Ok(kind_of(&answer))
+}
+
+/// Which answer it is.
+fn kind_of(answer: &Answer) -> Kind {
+    match answer {
+        Answer::Model => Kind::Model,
+        Answer::Core(_) => Kind::Core,
+        Answer::Spent => Kind::Spent,
+        Answer::SpentInside { .. } => Kind::SpentInside,
+        Answer::Paused => Kind::Paused,
+        Answer::NoMemory => Kind::NoMemory,
+    }
+}
+
+/// Whether the answer is a core of these literals, in any order, where those are assumed.
+pub fn has_core(
+    alloc: Global,
+    scene: &mut Scene,
+    assumed: &[u32],
+    codes: &[u32],
+) -> Result<bool, NoMemory> {
+    let lits = lits_of(alloc, assumed)?;
+    let answer = scene.ask(alloc, lits.as_slice(), MANY)?;
+    Ok(is_core_of(&answer, codes))
+}
+
+/// Whether an answer is a core of these literals, in any order.
+fn is_core_of(answer: &Answer, codes: &[u32]) -> bool {
+    match answer {
+        Answer::Core(core) => core.len() == codes.len() && are_of(core.as_slice(), codes),
+        _ => false,
+    }
+}
+
+/// Whether each literal has one of the codes.
+fn are_of(lits: &[Lit], codes: &[u32]) -> bool {
+    for lit in lits {
+        if !codes.contains(&lit.0) {
+            return false;
+        }
+    }
+    true
 }
