@@ -3,6 +3,8 @@ mod all_assignments;
 mod asking;
 mod clauses;
 mod listed;
+mod propagation;
 mod scene;
+mod stores;
 mod unit_checks;
 mod units;
