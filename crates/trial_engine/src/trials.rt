@@ -4,6 +4,7 @@ mod asking;
 mod clauses;
 mod listed;
 mod propagation;
+mod rows;
 mod scene;
 mod stores;
 mod unit_checks;

@@ -15,14 +15,14 @@ use std::alloc::Global;
 use std::marker::Model;
 
 /// What a test is about.
-#[derive(Drop)]
-pub struct Posed {
+#[derive(Clone, Copy)]
+pub struct Posed<'a> {
     /// The greatest variable.
     pub vars: u8,
     /// The clauses of the store.
-    pub base: Units,
+    pub base: &'a Units,
     /// The clauses of the theory.
-    pub listed: Units,
+    pub listed: &'a Units,
     /// When it gives them.
     pub manner: Manner,
     /// How many clauses may be counted.
@@ -54,10 +54,10 @@ impl Model for Scene {
 impl Scene {
     /// The engine of what is posed. Literals of other variables are left out, and those whose
     /// variable came before in their clause.
-    pub fn open(alloc: Global, posed: &Posed) -> Result<Scene, NoMemory> {
+    pub fn open(alloc: Global, posed: Posed) -> Result<Scene, NoMemory> {
         let vars = u32::from(posed.vars);
-        let base = clauses_over(alloc, vars, &posed.base)?;
-        let listed = clauses_over(alloc, vars, &posed.listed)?;
+        let base = clauses_over(alloc, vars, posed.base)?;
+        let listed = clauses_over(alloc, vars, posed.listed)?;
         let engine = engine_of(alloc, vars, &base, &listed, posed.manner)?;
         Ok(Scene {
             engine,
