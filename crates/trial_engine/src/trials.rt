@@ -6,6 +6,7 @@ mod listed;
 mod propagation;
 mod rows;
 mod scene;
+mod selectors;
 mod stores;
 mod unit_checks;
 mod units;
