@@ -59,7 +59,11 @@ fn slice_of(
 /// Judges an answer where a pause must come at `stop` counted clauses.
 fn judged(scene: &Scene, assumed: &[Lit], answer: &Answer, stop: u32) -> Part {
     if let Answer::Paused = answer {
-        return if scene.used() == stop { Part::Paused } else { Part::Wrong };
+        return if scene.used() == stop {
+            Part::Paused
+        } else {
+            Part::Wrong
+        };
     }
     if scene.used() < stop && scene.is_right(assumed, answer) {
         Part::Right

@@ -9,6 +9,7 @@ use std::alloc::Global;
 use std::test::Fail;
 
 static OWN: [&[u32]; 1] = [&[3, 4]];
+
 static LISTED: [&[u32]; 1] = [&[3]];
 
 /// An engine over it, with the clause that variable 1 is false or 2 is true.

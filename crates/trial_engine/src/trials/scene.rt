@@ -90,9 +90,10 @@ impl Scene {
         if slice == 0 || self.budget.used() >= self.budget.limit() {
             return Ok(Answer::Spent);
         }
-        Ok(self
-            .engine
-            .ask(alloc, lits.as_slice(), &mut self.budget, slice))
+        Ok(
+            self.engine
+                .ask(alloc, lits.as_slice(), &mut self.budget, slice),
+        )
     }
 
     /// Adds the clause of that place of the theory, if there is one, to the engine. False is an
@@ -189,12 +190,7 @@ fn together(alloc: Global, clauses: Units, others: &Units) -> Result<Units, NoMe
 }
 
 /// Puts a clause last, with one more literal.
-fn put_with(
-    alloc: Global,
-    clauses: &mut Units,
-    lits: Clause,
-    last: Lit,
-) -> Result<(), NoMemory> {
+fn put_with(alloc: Global, clauses: &mut Units, lits: Clause, last: Lit) -> Result<(), NoMemory> {
     let mut clause = lits;
     clause.push(alloc, last)?;
     clauses.push(alloc, clause)

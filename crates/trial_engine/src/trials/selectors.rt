@@ -10,6 +10,7 @@ use std::alloc::Global;
 use std::test::Fail;
 
 static OWN: [&[u32]; 1] = [&[2, 5]];
+
 static LISTED: [&[u32]; 1] = [&[3, 4]];
 
 /// An engine whose models have variables 1 and 2 alike, with both selectors.
