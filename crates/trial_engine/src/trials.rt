@@ -1,0 +1,12 @@
+// The tests, by what they are about.
+mod all_assignments;
+mod asking;
+mod clauses;
+mod listed;
+mod propagation;
+mod rows;
+mod scene;
+mod selectors;
+mod stores;
+mod unit_checks;
+mod units;
