@@ -32,6 +32,7 @@ pub enum Manner {
 /// beginning.
 #[derive(Drop)]
 pub struct Listed {
+    alloc: Global,
     vars: u32,
     base: Snapshot<Store>,
     clauses: Units,
@@ -58,13 +59,14 @@ impl Model for Listed {
 
 impl Listed {
     /// The theory of clauses over the variables 1 to `vars`, beside the clauses of a store.
-    pub fn of(vars: u32, store: &Store, clauses: Units, manner: Manner) -> Listed
+    pub fn of(alloc: Global, vars: u32, store: &Store, clauses: Units, manner: Manner) -> Listed
         requires { All (IsClauseOver vars) clauses }
         ensures vars { result.vars ≡ vars }
         ensures base { result.base ≡ store.now }
         ensures clauses { result.clauses ≡ clauses }
     {
         Listed {
+            alloc,
             vars,
             base: Snapshot::of(store),
             clauses,
@@ -96,29 +98,18 @@ impl Theory for Listed {
 
     ghost followed = { λ it. [] };
 
-    fn propagate(
-        &mut self,
-        alloc: Global,
-        trail: &Trail,
-        out: &mut Clause,
-    ) -> Result<Says, NoMemory> {
+    fn propagate(&mut self, trail: &Trail, out: &mut Clause) -> Result<Says, NoMemory> {
         if !self.is_time() {
             return Ok(Says::Quiet);
         }
-        find(alloc, trail, self.clauses.as_slice(), out)
+        find(self.alloc, trail, self.clauses.as_slice(), out)
     }
 
-    fn complete_check(
-        &mut self,
-        alloc: Global,
-        trail: &Trail,
-        out: &mut Clause,
-        limit: u32,
-    ) -> Check {
-        match find(alloc, trail, self.clauses.as_slice(), out) {
+    fn complete_check(&mut self, trail: &Trail, out: &mut Clause, limit: u32) -> Check {
+        match find(self.alloc, trail, self.clauses.as_slice(), out) {
             Err(_) => Check::NoMemory,
             Ok(Says::Clause) => Check::Clause,
-            Ok(Says::Quiet) => end_of(alloc, self.spends, limit),
+            Ok(Says::Quiet) => end_of(self.alloc, self.spends, limit),
         }
     }
 

@@ -163,7 +163,7 @@ fn engine_of(
 {
     let store = store_of(alloc, vars, base.as_slice())?;
     let again = listed.copy(alloc)?;
-    let theory = Listed::of(vars, &store, again, manner);
+    let theory = Listed::of(alloc, vars, &store, again, manner);
     Engine::open(alloc, vars, store, theory)
 }
 
