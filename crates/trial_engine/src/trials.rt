@@ -11,3 +11,4 @@ mod stores;
 mod unit_checks;
 mod units;
 mod whole_way;
+mod worked;
