@@ -10,3 +10,5 @@ mod selectors;
 mod stores;
 mod unit_checks;
 mod units;
+mod whole_way;
+mod worked;
