@@ -4,6 +4,7 @@ mod asking;
 mod clauses;
 mod listed;
 mod propagation;
+mod random;
 mod rows;
 mod scene;
 mod selectors;
