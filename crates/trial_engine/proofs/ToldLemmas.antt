@@ -73,8 +73,8 @@ are_over vars more clauses low =
     clauses
 
 -- a clause that acts may be given
-gives : (told : Told) (trail : Assigned) (out : List Lit) → All (IsClauseOver told.vars) told.clauses
-    → told.vars ≤ trail.vars → HasFound told.clauses trail.steps out Clause
+gives : (told : Told) (trail : Assigned) (out : List Lit)
+    → All (IsClauseOver told.vars) told.clauses → told.vars ≤ trail.vars → HasFound told.clauses trail.steps out Clause
     → IsGiven (meaning_of told) trail out
 gives told trail out over low found =
     let one = found.one refl in
@@ -99,8 +99,8 @@ said told trail out (Ok Quiet) over low found = λ e. cc
 said told trail out (Err cause) over low found = tt
 
 -- where none acts, a total trail is a model
-accepts : (told : Told) (trail : Assigned) (out : List Lit) → All (IsClauseOver told.vars) told.clauses
-    → told.vars ≤ trail.vars → IsTotal trail → Meets (values_of trail) told.base
+accepts : (told : Told) (trail : Assigned) (out : List Lit)
+    → All (IsClauseOver told.vars) told.clauses → told.vars ≤ trail.vars → IsTotal trail → Meets (values_of trail) told.base
     → HasFound told.clauses trail.steps out Quiet → IsToldModel told (values_of trail)
 accepts told trail out over low total base found =
     record {

@@ -186,7 +186,8 @@ fn first_unset(trail: &Trail, lits: &[Lit]) -> Option<Lit>
     requires { All (IsOver trail.now.vars) lits.now }
     ensures here { IfSome result (Contains lits.now) }
     ensures unset { IfSome result (λ lit. value_of trail.now.steps lit ≡ Value.Unset) }
-    ensures none { IfNone result (All (λ lit. value_of trail.now.steps lit ≢ Value.Unset) lits.now) }
+    ensures none { IfNone result
+        (All (λ lit. value_of trail.now.steps lit ≢ Value.Unset) lits.now) }
 {
     for lit in lits {
         if let Value::Unset = trail.value(*lit) {

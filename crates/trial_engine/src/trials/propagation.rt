@@ -1,5 +1,5 @@
-// What propagation does to small states. Literal 2 says that variable 1 is true, literal 3 that it is
-// false, and so on.
+// What propagation does to small states. Literal 2 says that variable 1 is true, literal 3 that it
+// is false, and so on.
 ghost use Rattle.std.specs.Prelude.{◌≡◌, ◌<◌, ◌^◌, false, IfOk};
 
 use crate::trials::clauses::{clause_over, lits_of};

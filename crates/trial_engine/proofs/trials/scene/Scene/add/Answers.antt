@@ -9,7 +9,8 @@ add-requires-clause-holds c values model =
     let listed = c.self.inside.listed in
     let clause = c.get-clause.result.now in
     subst (HoldsIn values) (sym c.as_slice-2.ensures)
-    (subst (HoldsIn values) (get_or_from_slice_get listed c.args.at clause clause c.get-clause.ensures)
+    (subst (HoldsIn values)
+    (get_or_from_slice_get listed c.args.at clause clause c.get-clause.ensures)
     (c.self.invariant.met values model.model c.args.at clause
     (slice_get_within listed c.args.at clause c.get-clause.ensures)))
 
