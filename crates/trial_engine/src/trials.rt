@@ -2,6 +2,7 @@
 mod all_assignments;
 mod asking;
 mod clauses;
+mod counting;
 mod listed;
 mod propagation;
 mod random;
