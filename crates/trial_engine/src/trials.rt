@@ -2,7 +2,9 @@
 mod all_assignments;
 mod asking;
 mod clauses;
+mod every_set;
 mod listed;
+mod memory;
 mod propagation;
 mod random;
 mod rows;
