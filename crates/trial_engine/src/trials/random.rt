@@ -9,10 +9,10 @@ use std::alloc::Global;
 use std::test::Fail;
 
 /// So many engines are asked in each manner of the theory.
-const ENGINES: u32 = 200;
+const ENGINES: u32 = 40;
 
 /// They count as many clauses at least, or the run shows little.
-const ENOUGH: u32 = 100;
+const ENOUGH: u32 = 10;
 
 /// How a question is put.
 #[derive(Debug, Drop, Clone, Copy, PartialEq, Eq)]
