@@ -1,6 +1,7 @@
 // The tests, by what they are about.
 mod at_once;
 mod facts;
+mod first_read;
 mod machine;
 mod offers;
 mod one_seat;
