@@ -86,8 +86,11 @@ impl<'a> Asking<'a> {
         requires { 1 ≤ limit }
     {
         self.ask(alloc, Clause::open(), limit)?;
-        while let Some(atom) = self.left.pop() {
-            self.ask_without(alloc, atom, limit)?;
+        for _ in 0..self.left.len() {
+            match self.left.pop() {
+                Some(atom) => self.ask_without(alloc, atom, limit)?,
+                None => return Ok(()),
+            }
         }
         Ok(())
     }
