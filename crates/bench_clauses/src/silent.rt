@@ -5,7 +5,6 @@ ghost use Rattle.bench_clauses.specs.Problem.{meaning_of};
 use assumption_engine::{Check, Theory};
 use clause_store::{Clause, Says, Store, Trail};
 use item_list::NoMemory;
-use std::alloc::Global;
 use std::marker::Model;
 use std::snapshot::Snapshot;
 
@@ -40,22 +39,11 @@ impl Theory for Silent {
 
     ghost followed = { λ it. [] };
 
-    fn propagate(
-        &mut self,
-        _alloc: Global,
-        _trail: &Trail,
-        _out: &mut Clause,
-    ) -> Result<Says, NoMemory> {
+    fn propagate(&mut self, _trail: &Trail, _out: &mut Clause) -> Result<Says, NoMemory> {
         Ok(Says::Quiet)
     }
 
-    fn complete_check(
-        &mut self,
-        _alloc: Global,
-        _trail: &Trail,
-        _out: &mut Clause,
-        _limit: u32,
-    ) -> Check {
+    fn complete_check(&mut self, _trail: &Trail, _out: &mut Clause, _limit: u32) -> Check {
         Check::Accept
     }
 

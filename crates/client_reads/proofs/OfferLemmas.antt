@@ -6,8 +6,8 @@ use Rattle.ground_program.specs.Models.{IsModel}
 use Rattle.ground_program.proofs.MeaningLemmas.{SomeFails-from}
 use Rattle.item_list.proofs.ListLemmas.{AllZip-All, AllZip-flip}
 use Rattle.normal_program.specs.declared.normal.Normal.{Normal}
-use Rattle.normal_program.specs.Normal.{IsNormalFormOf, IsAnswerSetN, KeepsN, KeepsAllN, StandsFor}
-use Rattle.normal_program.proofs.NormalLemmas.{SameAnswerSets-normal_form, KeepsN-from_rule}
+use Rattle.normal_program.specs.Normal.{IsNormalFormOf, KeepsN, KeepsAllN, StandsFor}
+use Rattle.normal_program.proofs.NormalLemmas.{KeepsN-from_rule}
 use Rattle.minimality_test.specs.Minimality.{IsMinimal}
 
 module _ (normal : Normal) (program : Program) (form : IsNormalFormOf normal program) where
@@ -32,8 +32,3 @@ module _ (normal : Normal) (program : Program) (form : IsNormalFormOf normal pro
         least = λ part proper. SomeFails-from set part program.rules
             (λ keeps. minimal part proper (keeps_normal set part keeps));
       }
-
-  pub answer_normal : (set : List Bool) → IsSetOver program.atoms set → IsModel program set
-      → IsMinimal normal set → IsAnswerSetN normal set
-  answer_normal set over model minimal =
-      (SameAnswerSets-normal_form normal program form set).1 (answer_from set over model minimal)

@@ -138,18 +138,38 @@ impl<'a> Client<'a> {
         ensures more { KnowsMore (view_of self.old.seat).actor (view_of self.new.seat).actor }
         ensures kept { self.new ≡ record self.old { seat = self.new.seat } }
     {
-        if let Err(broken) = is_model(self.program, set) {
-            return Offered::Broken(broken);
+        let offered = judge(alloc, self.program, self.normal, set, budget);
+        if let Offered::Taken = offered {
+            self.board.report_set(&mut self.seat, set);
         }
-        match smaller(alloc, self.normal, set, budget) {
-            Minimality::Minimal => {
-                self.board.report_set(&mut self.seat, set);
-                Offered::Taken
-            }
-            Minimality::Smaller(part) => Offered::Smaller(part),
-            Minimality::Spent => spent(alloc, budget),
-            Minimality::NoMemory => Offered::NoMemory,
-        }
+        offered
+    }
+}
+
+/// Whether the set is an answer set of the program, by its normal form.
+fn judge(
+    alloc: Global,
+    program: &Program,
+    normal: &Normal,
+    set: &Set,
+    budget: &mut Budget,
+) -> Offered
+    requires valid { IsProgram program.now }
+    requires normal { IsNormal normal.now }
+    requires form { IsNormalFormOf normal.now program.now }
+    requires over { IsSetOver program.now.atoms set.now }
+    requires unused { budget.old.units ≡ [] }
+    requires some { 1 ≤ budget.old.limit }
+    ensures { HasOffered program.now normal.now set.now budget.old budget.new result }
+{
+    if let Err(broken) = is_model(program, set) {
+        return Offered::Broken(broken);
+    }
+    match smaller(alloc, normal, set, budget) {
+        Minimality::Minimal => Offered::Taken,
+        Minimality::Smaller(part) => Offered::Smaller(part),
+        Minimality::Spent => spent(alloc, budget),
+        Minimality::NoMemory => Offered::NoMemory,
     }
 }
 

@@ -30,6 +30,7 @@ use weight_propagator::Weights;
 /// that extend answer sets.
 #[derive(Drop)]
 pub struct AnswerSetTheory<'a> {
+    alloc: Global,
     normal: &'a Normal,
     weights: Weights,
     unfounded: Unfounded,
@@ -56,6 +57,7 @@ impl<'a> AnswerSetTheory<'a> {
         let unfounded = Unfounded::open(alloc, normal)?;
         let disjunctive = has_disjunction(normal);
         Ok(AnswerSetTheory {
+            alloc,
             normal,
             weights,
             unfounded,
@@ -186,23 +188,12 @@ impl<'a> Theory for AnswerSetTheory<'a> {
 
     ghost followed = { λ it. it.followed };
 
-    fn propagate(
-        &mut self,
-        alloc: Global,
-        trail: &Trail,
-        out: &mut Clause,
-    ) -> Result<Says, NoMemory> {
-        self.look(alloc, trail, out)
+    fn propagate(&mut self, trail: &Trail, out: &mut Clause) -> Result<Says, NoMemory> {
+        self.look(self.alloc, trail, out)
     }
 
-    fn complete_check(
-        &mut self,
-        alloc: Global,
-        trail: &Trail,
-        out: &mut Clause,
-        limit: u32,
-    ) -> Check {
-        match self.judge(alloc, trail, out, limit) {
+    fn complete_check(&mut self, trail: &Trail, out: &mut Clause, limit: u32) -> Check {
+        match self.judge(self.alloc, trail, out, limit) {
             Ok(check) => check,
             Err(_) => Check::NoMemory,
         }

@@ -19,6 +19,7 @@ use weight_propagator::Weights;
 /// The theory of a search among the parts of a set.
 #[derive(Drop)]
 pub(crate) struct PartTheory<'a> {
+    alloc: Global,
     normal: &'a Normal,
     set: Snapshot<Set>,
     weights: Weights,
@@ -52,6 +53,7 @@ impl<'a> PartTheory<'a> {
     {
         let weights = Weights::open_within(alloc, normal, set)?;
         Ok(PartTheory {
+            alloc,
             normal,
             set: Snapshot::of(set),
             weights,
@@ -65,26 +67,15 @@ impl<'a> Theory for PartTheory<'a> {
     ghost followed = { λ it. it.followed };
 
     /// A clause that a weight body gives.
-    fn propagate(
-        &mut self,
-        alloc: Global,
-        trail: &Trail,
-        out: &mut Clause,
-    ) -> Result<Says, NoMemory> {
-        self.weights.propagate(alloc, self.normal, trail, out)
+    fn propagate(&mut self, trail: &Trail, out: &mut Clause) -> Result<Says, NoMemory> {
+        self.weights.propagate(self.alloc, self.normal, trail, out)
     }
 
     /// Where no weight body gives a clause, the total assignment comes from a smaller part.
-    fn complete_check(
-        &mut self,
-        alloc: Global,
-        trail: &Trail,
-        out: &mut Clause,
-        limit: u32,
-    ) -> Check {
+    fn complete_check(&mut self, trail: &Trail, out: &mut Clause, limit: u32) -> Check {
         let _ = limit;
         trail.vouch();
-        match self.weights.propagate(alloc, self.normal, trail, out) {
+        match self.weights.propagate(self.alloc, self.normal, trail, out) {
             Ok(Says::Clause) => Check::Clause,
             Ok(Says::Quiet) => Check::Accept,
             Err(_) => Check::NoMemory,

@@ -3,6 +3,7 @@ use Rattle.std.specs.Prelude.{◌≡◌, length}
 use Rattle.ground_program.specs.declared.program.Program.{Program}
 use Rattle.ground_program.specs.declared.program.Mode.TheVariants.{Cautious}
 use Rattle.ground_program.specs.declared.pair.Pair.{Pair}
+use Rattle.ground_program.specs.Program.{IsProgram}
 use Rattle.ground_program.specs.Bounds.{IsPairOver}
 use Rattle.normal_program.specs.declared.normal.Normal.{Normal}
 use Rattle.normal_program.specs.Limit.{IsNormal}
@@ -14,6 +15,7 @@ use Rattle.bounds_board.specs.Rule.{Place}
 -- a board of a program's normal form in cautious mode, a seat of it, and a pair for its candidates
 pub record IsReady (program : Program) (normal : Normal) (board : Board) (seat : Place)
     (pair : Pair) : Type 0 where
+  pub valid : IsProgram program
   pub is_normal : IsNormal normal
   pub form : IsNormalFormOf normal program
   pub about : normal_of board ≡ normal

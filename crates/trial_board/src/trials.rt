@@ -2,5 +2,6 @@
 mod at_once;
 mod facts;
 mod machine;
+mod offers;
 mod one_seat;
 mod scene;

@@ -3,6 +3,7 @@ mod answers;
 mod founding;
 mod founding_points;
 mod founding_scene;
+mod inside;
 mod plain_founding;
 mod questions;
 mod scene;

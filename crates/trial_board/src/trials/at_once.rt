@@ -1,12 +1,11 @@
 // One seat reads again and again in one thread while another reports in a second one. Then the
 // reader learns what the other had seen.
-ghost use Rattle.std.specs.Prelude.{◌≡◌, IfOk, IsTrue, length};
+ghost use Rattle.std.specs.Prelude.{length};
 ghost use Rattle.ground_program.specs.Bounds.{IsPairOver};
 ghost use Rattle.normal_program.specs.Normal.{IsAnswerSetN};
 ghost use Rattle.bounds_board.specs.Board.{IsSeatOf, normal_of};
 ghost use Rattle.trial_board.specs.Ready.{IsReady};
 
-use crate::trials::facts::is_answer;
 use crate::trials::scene::{ONE_OF_TWO, Scene};
 use bounds_board::{Board, BoardSeat};
 use ground_program::{Pair, Set};
@@ -37,7 +36,7 @@ fn read_often(board: &Board, mut seat: BoardSeat, mut pair: Pair) -> Reading
 }
 
 /// Reports what an answer set shows.
-fn report(board: &Board, mut seat: BoardSeat, set: &Set) -> BoardSeat
+pub fn report(board: &Board, mut seat: BoardSeat, set: &Set) -> BoardSeat
     requires seat { IsSeatOf board.now seat }
     requires answer { IsAnswerSetN (normal_of board.now) set.now }
     ensures { IsSeatOf board.now result }
@@ -83,22 +82,12 @@ fn has_learnt(board: &Board, reading: Reading, noted: BoardSeat) -> bool
     lower && upper
 }
 
-/// Whether a set is an answer set of the program of a board.
-fn may_report(alloc: Global, scene: &Scene, set: &Set) -> Result<bool, NoMemory>
-    requires { IsReady scene.now.program scene.now.normal scene.now.board scene.now.seat
-        scene.now.pair }
-    ensures { IfOk result (λ yes. IsTrue yes → IsAnswerSetN (normal_of scene.now.board) set.now) }
-{
-    let answer = is_answer(alloc, &scene.program, &scene.normal, set)?;
-    Ok(answer)
-}
-
 /// Whether a reader has what was reported at once: the answer set of 2 and 4.
 fn is_learnt<R: Threads>(rt: &R, alloc: Global, scene: Scene) -> Result<bool, NoMemory>
     requires { IsReady scene.program scene.normal scene.board scene.seat scene.pair }
 {
     let set = set_of(alloc, 4, 0b1010)?;
-    if !may_report(alloc, &scene, &set)? {
+    if !scene.may_report(alloc, &set)? {
         return Ok(false);
     }
     let Scene {

@@ -2,19 +2,22 @@
 ghost use Rattle.std.specs.Prelude.{◌≡◌, ◌↔◌, IfOk, IfSome, IsTrue, OnOk, length};
 ghost use Rattle.ground_program.specs.Bounds.{IsCandidate};
 ghost use Rattle.ground_program.specs.Program.{IsProgram};
+ghost use Rattle.normal_program.specs.Normal.{IsAnswerSetN};
+ghost use Rattle.bounds_board.specs.Board.{normal_of};
 ghost use Rattle.trial_board.specs.Ready.{IsReady};
 
-use crate::trials::facts::is_in_every;
+use crate::trials::facts::{is_answer, is_in_every};
 use bounds_board::{Board, BoardSeat, Settled};
-use ground_program::{Mode, Pair, Program};
+use ground_program::{Mode, Pair, Program, Set};
 use item_list::NoMemory;
 use normal_program::Normal;
 use rule_normaliser::normalise;
 use std::alloc::Global;
+use trial_inputs::set_of;
 
 // Of atoms 2 and 3 each excludes the other, and either gives atom 4. So 4, which is candidate 3, is
 // in both answer sets, and candidates 1 and 2 are in one each.
-pub static ONE_OF_TWO: &[u8] =
+pub const ONE_OF_TWO: &[u8] =
     b"1 2 1 1 3\n1 3 1 1 2\n1 4 1 0 2\n1 4 1 0 3\n0\n2 a\n3 b\n4 c\n0\nB+\n0\nB-\n1\n0\n1\n";
 
 /// A program, its normal form, a board of it in cautious mode, a seat and a pair.
@@ -71,8 +74,9 @@ impl Scene {
     pub fn report_in(&mut self, alloc: Global, cand: u32) -> Result<bool, NoMemory>
         requires { IsReady self.old.program self.old.normal self.old.board self.old.seat
             self.old.pair }
-        ensures { OnOk result (IsReady self.new.program self.new.normal self.new.board
+        ensures ready { OnOk result (IsReady self.new.program self.new.normal self.new.board
             self.new.seat self.new.pair) }
+        ensures board { self.new.board ≡ self.old.board }
     {
         if !is_candidate(&self.normal, cand) {
             return Ok(false);
@@ -82,6 +86,36 @@ impl Scene {
             return Ok(false);
         }
         self.board.report_in(&mut self.seat, cand);
+        Ok(true)
+    }
+
+    /// Whether a set is an answer set, so that what it shows may be reported.
+    pub fn may_report(&self, alloc: Global, set: &Set) -> Result<bool, NoMemory>
+        requires { IsReady self.now.program self.now.normal self.now.board self.now.seat
+            self.now.pair }
+        ensures { IfOk result
+            (λ yes. IsTrue yes → IsAnswerSetN (normal_of self.now.board) set.now) }
+    {
+        let answer = is_answer(alloc, &self.program, &self.normal, set)?;
+        Ok(answer)
+    }
+
+    /// Reports what the set of these bits shows, where it is an answer set. Whether it is.
+    pub fn report_set(&mut self, alloc: Global, bits: u32) -> Result<bool, NoMemory>
+        requires { IsReady self.old.program self.old.normal self.old.board self.old.seat
+            self.old.pair }
+        ensures ready { OnOk result (IsReady self.new.program self.new.normal self.new.board
+            self.new.seat self.new.pair) }
+        ensures board { self.new.board ≡ self.old.board }
+    {
+        if self.program.atoms >= 32 {
+            return Ok(false);
+        }
+        let set = set_of(alloc, self.program.atoms, bits)?;
+        if !self.may_report(alloc, &set)? {
+            return Ok(false);
+        }
+        self.board.report_set(&mut self.seat, &set);
         Ok(true)
     }
 

@@ -1,10 +1,10 @@
-// Random programs without disjunctive rules, and questions about them whose answers are compared
-// with the definition.
+// Random programs, without disjunctive rules and with some, and questions about them whose answers
+// are compared with the definition.
 ghost use Rattle.normal_program.specs.Limit.{IsNormal};
 ghost use Rattle.normal_program.specs.Normal.{IsNormalFormOf};
 ghost use Rattle.trial_coherence.specs.Ready.{IsReady};
 
-use crate::trials::scene::Scene;
+use crate::trials::scene::{Scene, Stops};
 use clause_store::{Clause, Lit};
 use coherence_test::Asked;
 use ground_program::{Kind, Program};
@@ -16,7 +16,7 @@ use std::test::Fail;
 use trial_inputs::{Draws, Recipe, clause_of, random_program};
 
 // A selector more than disjunctions are asked for stays free.
-static RECIPE: Recipe = Recipe {
+static PLAIN: Recipe = Recipe {
     atoms: 8,
     rules: 11,
     kinds: &[
@@ -29,12 +29,53 @@ static RECIPE: Recipe = Recipe {
     names: 6,
 };
 
-/// What came of one program.
+// Most rules are disjunctive or have one head, so that heads stand in cycles through each other.
+static DISJUNCTIVE: Recipe = Recipe {
+    atoms: 7,
+    rules: 12,
+    kinds: &[
+        Kind::Disjunctive,
+        Kind::Basic,
+        Kind::Disjunctive,
+        Kind::Constraint,
+        Kind::Disjunctive,
+        Kind::Choice,
+        Kind::Basic,
+        Kind::Weight,
+    ],
+    names: 6,
+};
+
+/// What came of programs.
 #[derive(Drop)]
-struct Round {
-    right: bool,
-    stops: u32,
+struct Outcome {
+    /// How many programs had a wrong answer, or none.
+    wrong: u32,
+    stops: Stops,
     answer_sets: usize,
+}
+
+impl Outcome {
+    fn none() -> Outcome {
+        Outcome {
+            wrong: 0,
+            stops: Stops::none(),
+            answer_sets: 0,
+        }
+    }
+
+    fn fail(&mut self) {
+        self.wrong = self.wrong.saturating_add(1);
+    }
+
+    /// Adds what came of one scene.
+    fn add(&mut self, scene: &Scene, right: bool) {
+        if !right {
+            self.fail();
+        }
+        self.stops.add(scene.stops);
+        self.answer_sets = self.answer_sets.saturating_add(scene.extensions.len());
+    }
 }
 
 /// So many random literals over atoms and bodies.
@@ -123,65 +164,90 @@ fn are_lists_answered(alloc: Global, scene: &mut Scene, draws: &mut Draws) -> Re
     Ok(true)
 }
 
-/// Whether all questions about a program are answered rightly.
-fn round_of(
+/// Whether all questions of a scene are answered rightly.
+fn are_all_answered(alloc: Global, scene: &mut Scene, draws: &mut Draws) -> Result<bool, NoMemory>
+    requires { IsReady scene.old.program.now scene.old.normal.now scene.old.tester }
+{
+    Ok(are_lists_answered(alloc, scene, draws)? && is_each_literal_answered(alloc, scene)?)
+}
+
+/// Asks all questions about a program.
+fn ask_about(
     alloc: Global,
     program: &Program,
     normal: &Normal,
     draws: &mut Draws,
-) -> Result<Round, NoMemory>
+    outcome: &mut Outcome,
+) -> Result<(), NoMemory>
     requires normal { IsNormal normal.now }
     requires form { IsNormalFormOf normal.now program.now }
 {
-    match Scene::open(alloc, program, normal)? {
-        None => Ok(Round::failed()),
-        Some(mut scene) => {
-            let lists = are_lists_answered(alloc, &mut scene, draws)?;
-            let literals = is_each_literal_answered(alloc, &mut scene)?;
-            Ok(Round {
-                right: lists && literals,
-                stops: scene.stops,
-                answer_sets: scene.extensions.len(),
-            })
-        }
-    }
+    let Some(mut scene) = Scene::open(alloc, program, normal)? else {
+        outcome.fail();
+        return Ok(());
+    };
+    let right = are_all_answered(alloc, &mut scene, draws)?;
+    outcome.add(&scene, right);
+    Ok(())
 }
 
-impl Round {
-    fn failed() -> Round {
-        Round {
-            right: false,
-            stops: 0,
-            answer_sets: 0,
-        }
-    }
-}
-
-/// Whether all questions about one random program are answered rightly.
-fn random_round(alloc: Global, draws: &mut Draws) -> Result<Round, NoMemory> {
-    let Some(program) = random_program(alloc, &RECIPE, draws)? else {
-        return Ok(Round::failed());
+/// Asks all questions about one random program.
+fn ask_random(
+    alloc: Global,
+    recipe: &Recipe,
+    draws: &mut Draws,
+    outcome: &mut Outcome,
+) -> Result<(), NoMemory> {
+    let Some(program) = random_program(alloc, recipe, draws)? else {
+        outcome.fail();
+        return Ok(());
     };
     match normalise(alloc, &program) {
-        Err(_) => Ok(Round::failed()),
-        Ok(normal) => round_of(alloc, &program, &normal, draws),
+        Err(_) => {
+            outcome.fail();
+            Ok(())
+        }
+        Ok(normal) => ask_about(alloc, &program, &normal, draws, outcome),
     }
+}
+
+/// Asks all questions about so many random programs.
+fn outcome_of(alloc: Global, recipe: &Recipe, programs: u32) -> Result<Outcome, NoMemory> {
+    let mut draws = Draws::of(1);
+    let mut outcome = Outcome::none();
+    for _ in 0..programs {
+        ask_random(alloc, recipe, &mut draws, &mut outcome)?;
+    }
+    Ok(outcome)
 }
 
 #[test]
 fn random_programs_are_tested_as_the_definition_says(rt: HostRuntime) -> Result<(), Fail> {
-    let mut draws = Draws::of(1);
-    let mut stops: u32 = 0;
-    let mut answer_sets: usize = 0;
-    for number in 0..100u32 {
-        let round = random_round(rt.alloc(), &mut draws)?;
-        assert!(rt; round.right, "program {number}");
-        stops = stops.saturating_add(round.stops);
-        answer_sets = answer_sets.saturating_add(round.answer_sets);
-    }
+    let outcome = outcome_of(rt.alloc(), &PLAIN, 100)?;
+    assert!(rt; outcome.wrong == 0, "{} wrong", outcome.wrong);
+    let stops = &outcome.stops;
     assert!(rt;
-        stops > 10 && answer_sets > 100,
-        "{stops} stops, {answer_sets} answer sets"
+        stops.outside > 10 && stops.inside == 0 && outcome.answer_sets > 100,
+        "{} stops, {} inside, {} answer sets",
+        stops.outside,
+        stops.inside,
+        outcome.answer_sets
+    );
+    Ok(())
+}
+
+#[test]
+fn disjunctive_programs_are_tested_as_the_definition_says(rt: HostRuntime) -> Result<(), Fail> {
+    let outcome = outcome_of(rt.alloc(), &DISJUNCTIVE, 100)?;
+    assert!(rt; outcome.wrong == 0, "{} wrong", outcome.wrong);
+    let stops = &outcome.stops;
+    assert!(rt;
+        stops.outside > 10 && stops.inside_at_one > 0 && outcome.answer_sets > 100,
+        "{} stops, {} inside, {} with a budget of 1, {} answer sets",
+        stops.outside,
+        stops.inside,
+        stops.inside_at_one,
+        outcome.answer_sets
     );
     Ok(())
 }

@@ -1,19 +1,19 @@
-// A tester of a program without disjunctive rules, and the answer sets of the program.
-ghost use Rattle.std.specs.Prelude.{◌≡◌, ◌≢◌, ◌≤◌, ◌<◌, ◌↔◌, length, All, IfOk, IfSome, IsTrue};
+// A tester of a program, and the answer sets of the program.
+ghost use Rattle.std.specs.Prelude.{◌<◌, ◌↔◌, length, All, IfOk, IfSome, IsTrue};
 ghost use Rattle.clause_store.specs.Clause.{HasNoVariableTwice, IsOver};
 ghost use Rattle.normal_program.specs.Limit.{IsNormal};
 ghost use Rattle.normal_program.specs.Normal.{IsNormalFormOf, greatest_body_var};
-ghost use Rattle.coherence_test.specs.AnswerSets.{HasNoDisjunction};
 ghost use Rattle.coherence_test.specs.Selectors.{IsImport};
-ghost use Rattle.coherence_test.specs.Testing.{MayAsk, selectors};
+ghost use Rattle.coherence_test.specs.Testing.{MayAsk};
 ghost use Rattle.trial_coherence.specs.Ready.{IsReady};
 
 use crate::trials::answers::{all_answers, is_core, meets};
+use crate::trials::inside::is_spent_within;
 use clause_store::{Budget, Clause, Lit, Units};
 use coherence_test::{Asked, Tested, Tester};
-use ground_program::{Kind, Program, Set, Sets};
+use ground_program::{Program, Set, Sets};
 use item_list::NoMemory;
-use normal_program::{Normal, NormalRule};
+use normal_program::Normal;
 use plain_answer_sets::is_answer_set;
 use plain_entailment::is_entailed;
 use std::alloc::Global;
@@ -26,12 +26,48 @@ pub struct Scene<'a> {
     pub normal: &'a Normal,
     pub tester: Tester<'a>,
     pub extensions: Sets,
-    /// How often a test was Spent or Paused.
-    pub stops: u32,
+    pub stops: Stops,
+}
+
+/// How often a test stopped before it was done.
+#[derive(Drop, Clone, Copy)]
+pub struct Stops {
+    /// Spent or Paused.
+    pub outside: u32,
+    /// SpentInside, and how often of that with a budget of 1.
+    pub inside: u32,
+    pub inside_at_one: u32,
+}
+
+impl Stops {
+    pub fn none() -> Stops {
+        Stops {
+            outside: 0,
+            inside: 0,
+            inside_at_one: 0,
+        }
+    }
+
+    fn count_outside(&mut self) {
+        self.outside = self.outside.saturating_add(1);
+    }
+
+    fn count_inside(&mut self, limit: u32) {
+        self.inside = self.inside.saturating_add(1);
+        if limit == 1 {
+            self.inside_at_one = self.inside_at_one.saturating_add(1);
+        }
+    }
+
+    pub fn add(&mut self, other: Stops) {
+        self.outside = self.outside.saturating_add(other.outside);
+        self.inside = self.inside.saturating_add(other.inside);
+        self.inside_at_one = self.inside_at_one.saturating_add(other.inside_at_one);
+    }
 }
 
 impl<'a> Scene<'a> {
-    /// The scene of a program. None is one of 16 atoms and more, or with a disjunctive rule.
+    /// The scene of a program. None is one of 16 atoms and more.
     pub fn open(
         alloc: Global,
         program: &'a Program,
@@ -42,7 +78,7 @@ impl<'a> Scene<'a> {
         ensures { IfOk result (λ it.
             IfSome it (λ scene. IsReady scene.program.now scene.normal.now scene.tester)) }
     {
-        if program.atoms >= 16 || !has_no_disjunction(normal) {
+        if program.atoms >= 16 {
             return Ok(None);
         }
         let extensions = all_answers(alloc, program, normal)?;
@@ -52,7 +88,7 @@ impl<'a> Scene<'a> {
             normal,
             tester,
             extensions,
-            stops: 0,
+            stops: Stops::none(),
         }))
     }
 
@@ -103,21 +139,64 @@ impl<'a> Scene<'a> {
         }
     }
 
-    /// Asks until the answer is neither Spent nor Paused, with budgets of 1 to 5 and slices of 1
-    /// and 2. None is want of memory, a question that may not be asked, or one that takes too long.
-    pub fn settle(&mut self, alloc: Global, asked: &Asked) -> Option<Tested>
+    /// Asks until the answer is Found or Core, with budgets of 1 to 5 and greater ones, and slices of
+    /// 1 and 2. None is want of memory, a question that may not be asked, one that takes too long, or
+    /// a test that is wrongly spent inside a set.
+    pub fn settle(&mut self, alloc: Global, asked: &Asked) -> Result<Option<Tested>, NoMemory>
         requires { IsReady self.old.program.now self.old.normal.now self.old.tester }
         ensures { IsReady self.new.program.now self.new.normal.now self.new.tester }
     {
         let mut budget = Budget::new(1);
         for turn in 0..1000u32 {
-            let tested = self.ask(alloc, asked, &mut budget, turn)?;
+            let Some(tested) = self.ask(alloc, asked, &mut budget, turn) else {
+                return Ok(None);
+            };
             if !is_stop(&tested) {
-                return Some(tested);
+                return Ok(Some(tested));
             }
-            self.stops = self.stops.saturating_add(1);
+            if !self.may_go_on(alloc, asked, &tested, &mut budget)? {
+                return Ok(None);
+            }
         }
-        None
+        Ok(None)
+    }
+
+    /// Counts a stop. Whether it is right. Where a test was spent inside a set, the next budget is
+    /// twice as great.
+    fn may_go_on(
+        &mut self,
+        alloc: Global,
+        asked: &Asked,
+        tested: &Tested,
+        budget: &mut Budget,
+    ) -> Result<bool, NoMemory>
+        requires { IsReady self.old.program.now self.old.normal.now self.old.tester }
+        ensures { IsReady self.new.program.now self.new.normal.now self.new.tester }
+    {
+        let Tested::SpentInside { set, units } = tested else {
+            self.stops.count_outside();
+            return Ok(true);
+        };
+        let limit = budget.limit();
+        self.stops.count_inside(limit);
+        *budget = Budget::new(limit.saturating_mul(2));
+        Ok(units.len() == limit as usize && self.is_inside(alloc, asked, set, units)?)
+    }
+
+    /// Whether a set meets what was asked, and a test inside it is spent on these units.
+    fn is_inside(
+        &self,
+        alloc: Global,
+        asked: &Asked,
+        set: &Set,
+        units: &Units,
+    ) -> Result<bool, NoMemory>
+        requires { IsReady self.now.program.now self.now.normal.now self.now.tester }
+    {
+        if !self.is_met(alloc, asked, set)? {
+            return Ok(false);
+        }
+        is_spent_within(alloc, self.program, self.normal, set, units)
     }
 
     /// Whether a question is answered, and rightly.
@@ -125,7 +204,7 @@ impl<'a> Scene<'a> {
         requires { IsReady self.old.program.now self.old.normal.now self.old.tester }
         ensures { IsReady self.new.program.now self.new.normal.now self.new.tester }
     {
-        match self.settle(alloc, asked) {
+        match self.settle(alloc, asked)? {
             None => Ok(false),
             Some(tested) => self.is_right(alloc, asked, &tested),
         }
@@ -144,11 +223,16 @@ impl<'a> Scene<'a> {
 
     /// Whether a set is an answer set that meets what was asked.
     fn is_found(&self, alloc: Global, asked: &Asked, set: &Set) -> Result<bool, NoMemory> {
-        let values = extension(alloc, self.normal, set.as_slice(), set.as_slice())?;
-        if !meets(values.as_slice(), asked.assume.as_slice(), &asked.any) {
+        if !self.is_met(alloc, asked, set)? {
             return Ok(false);
         }
         is_answer_set(alloc, self.program, set)
+    }
+
+    /// Whether the extension of a set meets what was asked.
+    fn is_met(&self, alloc: Global, asked: &Asked, set: &Set) -> Result<bool, NoMemory> {
+        let values = extension(alloc, self.normal, set.as_slice(), set.as_slice())?;
+        Ok(meets(values.as_slice(), asked.assume.as_slice(), &asked.any))
     }
 
     /// Takes a clause from outside, where it holds in every answer set. Whether it does.
@@ -179,7 +263,10 @@ impl<'a> Scene<'a> {
 
 /// Whether an answer asks for another budget or another turn.
 fn is_stop(tested: &Tested) -> bool {
-    matches!(tested, Tested::Spent | Tested::Paused)
+    matches!(
+        tested,
+        Tested::Spent | Tested::Paused | Tested::SpentInside { .. }
+    )
 }
 
 /// Makes a budget that is used up anew.
@@ -188,22 +275,6 @@ fn fill(budget: &mut Budget, turn: u32)
 {
     if budget.used() == budget.limit() {
         *budget = Budget::new(1 + turn % 5);
-    }
-}
-
-/// Whether no rule is disjunctive.
-fn has_no_disjunction(normal: &Normal) -> bool
-    ensures { IsTrue result ↔ HasNoDisjunction normal.now }
-{
-    normal.rules.as_slice().iter().all(is_plain)
-}
-
-fn is_plain(rule: &NormalRule) -> bool
-    ensures { IsTrue result ↔ (rule.now.kind ≢ Kind.Disjunctive) }
-{
-    match rule.kind {
-        Kind::Disjunctive => false,
-        Kind::Basic | Kind::Constraint | Kind::Choice | Kind::Weight => true,
     }
 }
 

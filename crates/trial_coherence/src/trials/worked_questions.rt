@@ -112,7 +112,7 @@ fn is_answered(alloc: Global, scene: &mut Scene, question: &Question) -> Result<
         return Ok(false);
     }
     let asked = asked_by(alloc, question)?;
-    Ok(match scene.settle(alloc, &asked) {
+    Ok(match scene.settle(alloc, &asked)? {
         None => false,
         Some(tested) => is_expected(&tested, &question.expected),
     })

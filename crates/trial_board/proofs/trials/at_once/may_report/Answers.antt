@@ -1,7 +1,0 @@
-use Rattle.trial_board.proofs.BoardLemmas.{answer_for_board}
-use Rattle.trial_board.proofs.trials.at_once.may_report.Goals as goal
-
-pub returns : goal.returns
-returns c told =
-    answer_for_board c.args.scene.now.board c.args.scene.now.normal c.requires.about
-    c.args.set.now (c.in_ok-answer.ensures told)

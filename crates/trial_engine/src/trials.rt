@@ -1,0 +1,16 @@
+// The tests, by what they are about.
+mod all_assignments;
+mod asking;
+mod clauses;
+mod counting;
+mod listed;
+mod propagation;
+mod random;
+mod rows;
+mod scene;
+mod selectors;
+mod stores;
+mod unit_checks;
+mod units;
+mod whole_way;
+mod worked;

@@ -1,4 +1,0 @@
-pub mod GoingLemmas
-pub mod AnswerLemmas
-pub mod SettledLemmas
-pub mod TurnLemmas
