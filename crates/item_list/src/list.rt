@@ -64,6 +64,15 @@ impl<T> List<T> {
     }
 }
 
+impl<T> List<T> {
+    /// The list of the items of a vector, which it takes over. It takes no memory.
+    pub fn from_vec(items: Vec<T>) -> List<T>
+        ensures { result ≡ items.items }
+    {
+        List { held: Some(items) }
+    }
+}
+
 impl<T: Drop> List<T> {
     /// Puts the item last. After want of memory the list is as before.
     pub fn push(&mut self, alloc: Global, item: T) -> Result<(), NoMemory>

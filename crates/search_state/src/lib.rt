@@ -3,8 +3,6 @@
 #![tactic(auto)]
 
 mod attaching;
-mod next_decision;
 mod state;
 
-pub use next_decision::{first_not_true, least_unset};
 pub use state::SearchState;
