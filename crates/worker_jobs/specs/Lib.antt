@@ -1,0 +1,4 @@
+pub mod Job
+pub mod Gain
+pub mod Spent
+pub mod Laws
