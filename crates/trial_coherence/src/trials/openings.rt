@@ -180,12 +180,16 @@ fn are_alike_for(
         return Ok(true);
     }
     if let Way::Preferring = way {
-        second
-            .tester
-            .prefer(&[Lit(code ^ 1), Lit(code + 3), Lit(code / 2 + 1)]);
+        second.tester.prefer(&preferred_for(code));
     }
     let assume = clause_of(alloc, &[code])?;
     answer_alike(alloc, first, second, way, &Asked { assume, any: None })
+}
+
+/// What is preferred before the literal of a code is asked: its negation, and others.
+fn preferred_for(code: u32) -> [Lit; 3] {
+    let other = code.saturating_add(3);
+    [Lit(code ^ 1), Lit(other), Lit(other / 2)]
 }
 
 /// Whether two testers answer a question rightly, and alike.

@@ -151,9 +151,9 @@ impl<'a> Scene<'a> {
         }
     }
 
-    /// Asks until the answer is Found or Core, with budgets of 1 to 5 and greater ones, and slices of
-    /// 1 and 2. None is want of memory, a question that may not be asked, one that takes too long, or
-    /// a test that is wrongly spent inside a set.
+    /// Asks until the answer is Found or Core, with budgets of 1 to 5 and greater ones, and slices
+    /// of 1 and 2. None is want of memory, a question that may not be asked, one that takes too
+    /// long, or a test that is wrongly spent inside a set.
     pub fn settle(&mut self, alloc: Global, asked: &Asked) -> Result<Option<Tested>, NoMemory>
         requires { IsReady self.old.program.now self.old.normal.now self.old.tester }
         ensures { IsReady self.new.program.now self.new.normal.now self.new.tester }

@@ -1,5 +1,5 @@
-// What testers hand on of the clauses that they counted: of known ones about worked programs, and of
-// those that the budgets have about random programs.
+// What testers hand on of the clauses that they counted: of known ones about worked programs, and
+// of those that the budgets have about random programs.
 ghost use Rattle.ground_program.specs.Program.{IsProgram};
 ghost use Rattle.normal_program.specs.Limit.{IsNormal};
 ghost use Rattle.normal_program.specs.Normal.{IsNormalFormOf};
@@ -146,8 +146,8 @@ fn is_shown(alloc: Global, row: &Row) -> Result<bool, NoMemory> {
     }
 }
 
-/// Asks all questions of a tester. The kinds of the clauses that it counted. None is a wrong answer,
-/// or a clause that is handed on and mustn't be, or isn't and must be.
+/// Asks all questions of a tester. The kinds of the clauses that it counted. None is a wrong
+/// answer, or a clause that is handed on and mustn't be, or isn't and must be.
 fn kinds_asked(
     alloc: Global,
     scene: &mut Scene,

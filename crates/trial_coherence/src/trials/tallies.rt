@@ -38,7 +38,7 @@ impl Stops {
 }
 
 /// What a counted clause is to a tester that hands clauses on.
-#[derive(Drop, Clone, Copy, PartialEq, Eq)]
+#[derive(Drop, Clone, Copy)]
 pub enum Kind {
     /// One to three literals of atoms and bodies.
     One,

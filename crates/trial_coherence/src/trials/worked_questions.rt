@@ -201,6 +201,7 @@ fn is_answered(alloc: Global, scene: &mut Scene, question: &Question) -> Result<
     })
 }
 
+/// Whether questions get their answers, and no clause is counted on the way.
 fn are_all_answered(
     alloc: Global,
     scene: &mut Scene,
@@ -213,7 +214,7 @@ fn are_all_answered(
             return Ok(false);
         }
     }
-    Ok(true)
+    Ok(scene.counted.len() == 0)
 }
 
 /// Whether questions get their answers from a tester of a normal form.
