@@ -57,8 +57,8 @@ fn is_true(trail: &Trail, lit: Lit) -> bool {
     trail.has(lit) && trail.value(lit) == Value::Yes
 }
 
-/// Whether two engines over the same random clauses answer six questions alike, where one takes after
-/// the other before it is asked.
+/// Whether two engines over the same random clauses answer six questions alike, where one takes
+/// after the other before it is asked.
 fn are_alike(alloc: Global, seed: u64) -> Result<bool, NoMemory> {
     let mut first = scene_of(alloc, 7, Manner::Every(2), &mut Draws::of(seed))?;
     let mut second = scene_of(alloc, 7, Manner::Every(2), &mut Draws::of(seed))?;
