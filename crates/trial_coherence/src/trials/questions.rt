@@ -4,10 +4,13 @@ ghost use Rattle.normal_program.specs.Limit.{IsNormal};
 ghost use Rattle.normal_program.specs.Normal.{IsNormalFormOf};
 ghost use Rattle.trial_coherence.specs.Ready.{IsReady};
 
-use crate::trials::scene::{Scene, Stops};
+use crate::trials::handing::hands_on;
+use crate::trials::recipes::{DISJUNCTIVE, PLAIN};
+use crate::trials::scene::Scene;
+use crate::trials::tallies::Stops;
 use clause_store::{Clause, Lit};
 use coherence_test::Asked;
-use ground_program::{Kind, Program};
+use ground_program::Program;
 use item_list::NoMemory;
 use normal_program::Normal;
 use rule_normaliser::normalise;
@@ -15,42 +18,13 @@ use std::alloc::Global;
 use std::test::Fail;
 use trial_inputs::{Draws, Recipe, clause_of, random_program};
 
-// A selector more than disjunctions are asked for stays free.
-static PLAIN: Recipe = Recipe {
-    atoms: 8,
-    rules: 11,
-    kinds: &[
-        Kind::Basic,
-        Kind::Basic,
-        Kind::Constraint,
-        Kind::Choice,
-        Kind::Weight,
-    ],
-    names: 6,
-};
-
-// Most rules are disjunctive or have one head, so that heads stand in cycles through each other.
-static DISJUNCTIVE: Recipe = Recipe {
-    atoms: 7,
-    rules: 12,
-    kinds: &[
-        Kind::Disjunctive,
-        Kind::Basic,
-        Kind::Disjunctive,
-        Kind::Constraint,
-        Kind::Disjunctive,
-        Kind::Choice,
-        Kind::Basic,
-        Kind::Weight,
-    ],
-    names: 6,
-};
-
 /// What came of programs.
 #[derive(Drop)]
 struct Outcome {
     /// How many programs had a wrong answer, or none.
     wrong: u32,
+    /// How many testers handed on what they must not, or not what they must.
+    misled: u32,
     stops: Stops,
     answer_sets: usize,
 }
@@ -59,6 +33,7 @@ impl Outcome {
     fn none() -> Outcome {
         Outcome {
             wrong: 0,
+            misled: 0,
             stops: Stops::none(),
             answer_sets: 0,
         }
@@ -68,14 +43,28 @@ impl Outcome {
         self.wrong = self.wrong.saturating_add(1);
     }
 
+    fn mislead(&mut self) {
+        self.misled = self.misled.saturating_add(1);
+    }
+
     /// Adds what came of one scene.
-    fn add(&mut self, scene: &Scene, right: bool) {
-        if !right {
+    fn add(&mut self, scene: &Scene, shown: Shown) {
+        if !shown.right {
             self.fail();
+        }
+        if !shown.handed_on {
+            self.mislead();
         }
         self.stops.add(scene.stops);
         self.answer_sets = self.answer_sets.saturating_add(scene.extensions.len());
     }
+}
+
+/// Whether all questions to a tester are answered rightly, and it hands on what it is to.
+#[derive(Drop, Clone, Copy)]
+pub struct Shown {
+    pub right: bool,
+    pub handed_on: bool,
 }
 
 /// So many random literals over atoms and bodies.
@@ -106,7 +95,7 @@ fn is_literal_answered(alloc: Global, scene: &mut Scene, code: u32) -> Result<bo
 }
 
 /// Whether each literal of an atom or a body is answered rightly.
-fn is_each_literal_answered(alloc: Global, scene: &mut Scene) -> Result<bool, NoMemory>
+pub fn is_each_literal_answered(alloc: Global, scene: &mut Scene) -> Result<bool, NoMemory>
     requires { IsReady scene.old.program.now scene.old.normal.now scene.old.tester }
     ensures { IsReady scene.new.program.now scene.new.normal.now scene.new.tester }
 {
@@ -164,11 +153,18 @@ fn are_lists_answered(alloc: Global, scene: &mut Scene, draws: &mut Draws) -> Re
     Ok(true)
 }
 
-/// Whether all questions of a scene are answered rightly.
-fn are_all_answered(alloc: Global, scene: &mut Scene, draws: &mut Draws) -> Result<bool, NoMemory>
+/// Asks all questions of a scene. What is counted is handed on after the lists and after all.
+pub fn ask_all(alloc: Global, scene: &mut Scene, draws: &mut Draws) -> Result<Shown, NoMemory>
     requires { IsReady scene.old.program.now scene.old.normal.now scene.old.tester }
 {
-    Ok(are_lists_answered(alloc, scene, draws)? && is_each_literal_answered(alloc, scene)?)
+    let lists = are_lists_answered(alloc, scene, draws)?;
+    let early = hands_on(alloc, scene)?;
+    let each = is_each_literal_answered(alloc, scene)?;
+    let late = hands_on(alloc, scene)?;
+    Ok(Shown {
+        right: lists && each,
+        handed_on: early && late,
+    })
 }
 
 /// Asks all questions about a program.
@@ -186,8 +182,8 @@ fn ask_about(
         outcome.fail();
         return Ok(());
     };
-    let right = are_all_answered(alloc, &mut scene, draws)?;
-    outcome.add(&scene, right);
+    let shown = ask_all(alloc, &mut scene, draws)?;
+    outcome.add(&scene, shown);
     Ok(())
 }
 
@@ -225,6 +221,7 @@ fn outcome_of(alloc: Global, recipe: &Recipe, programs: u32) -> Result<Outcome, 
 fn random_programs_are_tested_as_the_definition_says(rt: HostRuntime) -> Result<(), Fail> {
     let outcome = outcome_of(rt.alloc(), &PLAIN, 100)?;
     assert!(rt; outcome.wrong == 0, "{} wrong", outcome.wrong);
+    assert!(rt; outcome.misled == 0, "{} misled", outcome.misled);
     let stops = &outcome.stops;
     assert!(rt;
         stops.outside > 10 && stops.inside == 0 && outcome.answer_sets > 100,
@@ -240,6 +237,7 @@ fn random_programs_are_tested_as_the_definition_says(rt: HostRuntime) -> Result<
 fn disjunctive_programs_are_tested_as_the_definition_says(rt: HostRuntime) -> Result<(), Fail> {
     let outcome = outcome_of(rt.alloc(), &DISJUNCTIVE, 100)?;
     assert!(rt; outcome.wrong == 0, "{} wrong", outcome.wrong);
+    assert!(rt; outcome.misled == 0, "{} misled", outcome.misled);
     let stops = &outcome.stops;
     assert!(rt;
         stops.outside > 10 && stops.inside_at_one > 0 && outcome.answer_sets > 100,

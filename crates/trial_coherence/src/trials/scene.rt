@@ -1,6 +1,7 @@
 // A tester of a program, and the answer sets of the program.
-ghost use Rattle.std.specs.Prelude.{◌<◌, ◌↔◌, length, All, IfOk, IfSome, IsTrue};
+ghost use Rattle.std.specs.Prelude.{◌≡◌, ◌<◌, ◌↔◌, length, All, IfOk, IfSome, IsTrue};
 ghost use Rattle.clause_store.specs.Clause.{HasNoVariableTwice, IsOver};
+ghost use Rattle.normal_program.specs.Clauses.{base_clauses};
 ghost use Rattle.normal_program.specs.Limit.{IsNormal};
 ghost use Rattle.normal_program.specs.Normal.{IsNormalFormOf, greatest_body_var};
 ghost use Rattle.coherence_test.specs.Selectors.{IsImport};
@@ -9,8 +10,10 @@ ghost use Rattle.trial_coherence.specs.Ready.{IsReady};
 
 use crate::trials::answers::{all_answers, is_core, meets};
 use crate::trials::inside::is_spent_within;
-use clause_store::{Budget, Clause, Lit, Units};
+use crate::trials::tallies::{Kinds, Stops};
+use clause_store::{Budget, Clause, Lit, Store, Units};
 use coherence_test::{Asked, Tested, Tester};
+use completion::complete;
 use ground_program::{Program, Set, Sets};
 use item_list::NoMemory;
 use normal_program::Normal;
@@ -27,43 +30,9 @@ pub struct Scene<'a> {
     pub tester: Tester<'a>,
     pub extensions: Sets,
     pub stops: Stops,
-}
-
-/// How often a test stopped before it was done.
-#[derive(Drop, Clone, Copy)]
-pub struct Stops {
-    /// Spent or Paused.
-    pub outside: u32,
-    /// SpentInside, and how often of that with a budget of 1.
-    pub inside: u32,
-    pub inside_at_one: u32,
-}
-
-impl Stops {
-    pub fn none() -> Stops {
-        Stops {
-            outside: 0,
-            inside: 0,
-            inside_at_one: 0,
-        }
-    }
-
-    fn count_outside(&mut self) {
-        self.outside = self.outside.saturating_add(1);
-    }
-
-    fn count_inside(&mut self, limit: u32) {
-        self.inside = self.inside.saturating_add(1);
-        if limit == 1 {
-            self.inside_at_one = self.inside_at_one.saturating_add(1);
-        }
-    }
-
-    pub fn add(&mut self, other: Stops) {
-        self.outside = self.outside.saturating_add(other.outside);
-        self.inside = self.inside.saturating_add(other.inside);
-        self.inside_at_one = self.inside_at_one.saturating_add(other.inside_at_one);
-    }
+    /// The clauses that tests counted since it was last seen which are handed on.
+    pub counted: Units,
+    pub kinds: Kinds,
 }
 
 impl<'a> Scene<'a> {
@@ -89,7 +58,46 @@ impl<'a> Scene<'a> {
             tester,
             extensions,
             stops: Stops::none(),
+            counted: Units::open(),
+            kinds: Kinds::none(),
         }))
+    }
+
+    /// A scene of the same program, whose tester is opened over a completed store.
+    pub fn copied(&self, alloc: Global, completed: &Store) -> Result<Scene<'a>, NoMemory>
+        requires ready { IsReady self.now.program.now self.now.normal.now self.now.tester }
+        requires completed { completed.now ≡ base_clauses self.now.normal.now }
+        ensures { IfOk result (λ it. IsReady it.program.now it.normal.now it.tester) }
+    {
+        let tester = Tester::open_over(alloc, self.normal, completed)?;
+        self.with(alloc, tester)
+    }
+
+    /// The same, whose tester is opened after that of this scene.
+    pub fn followed(&self, alloc: Global, completed: &Store) -> Result<Scene<'a>, NoMemory>
+        requires ready { IsReady self.now.program.now self.now.normal.now self.now.tester }
+        requires completed { completed.now ≡ base_clauses self.now.normal.now }
+        ensures { IfOk result (λ it. IsReady it.program.now it.normal.now it.tester) }
+    {
+        let tester = Tester::open_after(alloc, completed, &self.tester)?;
+        self.with(alloc, tester)
+    }
+
+    /// A scene of the same program with another tester.
+    fn with(&self, alloc: Global, tester: Tester<'a>) -> Result<Scene<'a>, NoMemory>
+        requires { IsReady self.now.program.now self.now.normal.now tester }
+        ensures { IfOk result (λ it. IsReady it.program.now it.normal.now it.tester) }
+    {
+        let extensions = self.extensions.copy(alloc)?;
+        Ok(Scene {
+            program: self.program,
+            normal: self.normal,
+            tester,
+            extensions,
+            stops: Stops::none(),
+            counted: Units::open(),
+            kinds: Kinds::none(),
+        })
     }
 
     /// The greatest variable of an atom or a body.
@@ -118,37 +126,41 @@ impl<'a> Scene<'a> {
         }
     }
 
-    /// Asks once, where it may be asked. None is want of memory, or a question that may not be.
+    /// Asks once, where it may be asked, and notes what is counted. None is want of memory, or a
+    /// question that may not be.
     fn ask(
         &mut self,
         alloc: Global,
         asked: &Asked,
         budget: &mut Budget,
         turn: u32,
-    ) -> Option<Tested>
+    ) -> Result<Option<Tested>, NoMemory>
         requires { IsReady self.old.program.now self.old.normal.now self.old.tester }
         ensures { IsReady self.new.program.now self.new.normal.now self.new.tester }
     {
         if !self.may_ask(asked) {
-            return None;
+            return Ok(None);
         }
         fill(budget, turn);
-        match self.tester.test(alloc, asked, budget, 1 + turn % 2) {
-            Tested::NoMemory => None,
-            tested => Some(tested),
+        let before = budget.used() as usize;
+        let tested = self.tester.test(alloc, asked, budget, 1 + turn % 2);
+        put_after(alloc, budget.units(), before, &mut self.counted)?;
+        match tested {
+            Tested::NoMemory => Ok(None),
+            tested => Ok(Some(tested)),
         }
     }
 
-    /// Asks until the answer is Found or Core, with budgets of 1 to 5 and greater ones, and slices of
-    /// 1 and 2. None is want of memory, a question that may not be asked, one that takes too long, or
-    /// a test that is wrongly spent inside a set.
+    /// Asks until the answer is Found or Core, with budgets of 1 to 5 and greater ones, and slices
+    /// of 1 and 2. None is want of memory, a question that may not be asked, one that takes too
+    /// long, or a test that is wrongly spent inside a set.
     pub fn settle(&mut self, alloc: Global, asked: &Asked) -> Result<Option<Tested>, NoMemory>
         requires { IsReady self.old.program.now self.old.normal.now self.old.tester }
         ensures { IsReady self.new.program.now self.new.normal.now self.new.tester }
     {
         let mut budget = Budget::new(1);
         for turn in 0..1000u32 {
-            let Some(tested) = self.ask(alloc, asked, &mut budget, turn) else {
+            let Some(tested) = self.ask(alloc, asked, &mut budget, turn)? else {
                 return Ok(None);
             };
             if !is_stop(&tested) {
@@ -211,7 +223,12 @@ impl<'a> Scene<'a> {
     }
 
     /// Whether an answer is right.
-    fn is_right(&self, alloc: Global, asked: &Asked, tested: &Tested) -> Result<bool, NoMemory> {
+    pub fn is_right(
+        &self,
+        alloc: Global,
+        asked: &Asked,
+        tested: &Tested,
+    ) -> Result<bool, NoMemory> {
         match tested {
             Tested::Found(set) => self.is_found(alloc, asked, set),
             Tested::Core(core) => Ok(is_core(&self.extensions, asked, core)),
@@ -261,12 +278,36 @@ impl<'a> Scene<'a> {
     }
 }
 
+/// The completed store of a normal form.
+pub fn completed_of(alloc: Global, normal: &Normal) -> Result<Store, NoMemory>
+    requires { IsNormal normal.now }
+    ensures { IfOk result (λ it. it ≡ base_clauses normal.now) }
+{
+    let mut store = Store::open();
+    complete(alloc, normal, &mut store)?;
+    Ok(store)
+}
+
 /// Whether an answer asks for another budget or another turn.
 fn is_stop(tested: &Tested) -> bool {
     matches!(
         tested,
         Tested::Spent | Tested::Paused | Tested::SpentInside { .. }
     )
+}
+
+/// Puts the clauses from one place on last.
+fn put_after(
+    alloc: Global,
+    units: &Units,
+    before: usize,
+    counted: &mut Units,
+) -> Result<(), NoMemory> {
+    for unit in units.as_slice().iter().skip(before) {
+        let copy = unit.copy(alloc)?;
+        counted.push(alloc, copy)?;
+    }
+    Ok(())
 }
 
 /// Makes a budget that is used up anew.

@@ -1,9 +1,10 @@
-// A program whose answer sets are known, and what a tester answers about it.
+// Programs whose answer sets are known, and what a tester answers about them.
 ghost use Rattle.normal_program.specs.Limit.{IsNormal};
 ghost use Rattle.normal_program.specs.Normal.{IsNormalFormOf};
 ghost use Rattle.trial_coherence.specs.Ready.{IsReady};
 
 use crate::trials::scene::Scene;
+use crate::trials::worked_programs::{A_FACT, ONE_OF_TWO};
 use clause_store::Lit;
 use coherence_test::{Asked, Tested};
 use ground_program::Program;
@@ -13,11 +14,6 @@ use rule_normaliser::normalise;
 use std::alloc::Global;
 use std::test::Fail;
 use trial_inputs::{clause_of, program_of};
-
-// Of atoms 2 and 3 each excludes the other, and either gives atom 4. So the answer sets are 2 with
-// 4 and 3 with 4.
-static ONE_OF_TWO: &[u8] =
-    b"1 2 1 1 3\n1 3 1 1 2\n1 4 1 0 2\n1 4 1 0 3\n0\n2 a\n3 b\n4 c\n0\nB+\n0\nB-\n1\n0\n1\n";
 
 /// What a tester is to answer.
 enum Expected {
@@ -35,8 +31,27 @@ struct Question {
     expected: Expected,
 }
 
-// They are asked of one tester, in this order.
-static QUESTIONS: [Question; 3] = [
+/// A program, and questions that are asked of one tester, in this order.
+struct Worked {
+    shows: &'static str,
+    text: &'static [u8],
+    questions: &'static [Question],
+}
+
+static WORKED: [Worked; 2] = [
+    Worked {
+        shows: "an even loop",
+        text: ONE_OF_TWO,
+        questions: ABOUT_ONE_OF_TWO,
+    },
+    Worked {
+        shows: "the negation of a fact",
+        text: A_FACT,
+        questions: ABOUT_A_FACT,
+    },
+];
+
+const ABOUT_ONE_OF_TWO: &[Question] = &[
     // Neither 2 nor 3.
     Question {
         imported: None,
@@ -57,6 +72,74 @@ static QUESTIONS: [Question; 3] = [
         assumed: &[],
         any: Some(&[9]),
         expected: Expected::Core(&[], true),
+    },
+];
+
+// Each question about the fact is answered alike, whatever the tester assigned before: nothing, an
+// answer set, or literals that were assumed.
+const ABOUT_A_FACT: &[Question] = &[
+    // Without 2, while nothing is assigned yet.
+    Question {
+        imported: None,
+        assumed: &[5],
+        any: None,
+        expected: Expected::Core(&[5], false),
+    },
+    // With 3.
+    Question {
+        imported: None,
+        assumed: &[6],
+        any: None,
+        expected: Expected::Set(&[false, false, true, true, true]),
+    },
+    // Without 2, after an answer set.
+    Question {
+        imported: None,
+        assumed: &[5],
+        any: None,
+        expected: Expected::Core(&[5], false),
+    },
+    // With 3 and without 2.
+    Question {
+        imported: None,
+        assumed: &[6, 5],
+        any: None,
+        expected: Expected::Core(&[5], false),
+    },
+    // Without 2, among literals that contradict each other.
+    Question {
+        imported: None,
+        assumed: &[6, 7, 5, 8],
+        any: None,
+        expected: Expected::Core(&[5], false),
+    },
+    // Without 3, which is still free.
+    Question {
+        imported: None,
+        assumed: &[7],
+        any: None,
+        expected: Expected::Set(&[false, false, true, false, false]),
+    },
+    // Without 2, and with 3 or 4.
+    Question {
+        imported: None,
+        assumed: &[5],
+        any: Some(&[6, 8]),
+        expected: Expected::Core(&[5], false),
+    },
+    // A disjunction of the negation alone.
+    Question {
+        imported: None,
+        assumed: &[6],
+        any: Some(&[5]),
+        expected: Expected::Core(&[], true),
+    },
+    // A disjunction of the negation and 4.
+    Question {
+        imported: None,
+        assumed: &[],
+        any: Some(&[5, 8]),
+        expected: Expected::Set(&[false, false, true, true, true]),
     },
 ];
 
@@ -118,40 +201,52 @@ fn is_answered(alloc: Global, scene: &mut Scene, question: &Question) -> Result<
     })
 }
 
-fn all_are_answered(alloc: Global, scene: &mut Scene) -> Result<bool, NoMemory>
+/// Whether questions get their answers, and no clause is counted on the way.
+fn are_all_answered(
+    alloc: Global,
+    scene: &mut Scene,
+    questions: &[Question],
+) -> Result<bool, NoMemory>
     requires { IsReady scene.old.program.now scene.old.normal.now scene.old.tester }
 {
-    for question in &QUESTIONS {
+    for question in questions {
         if !is_answered(alloc, scene, question)? {
             return Ok(false);
         }
     }
-    Ok(true)
+    Ok(scene.counted.len() == 0)
 }
 
-/// Whether the questions get their answers from a tester of a normal form.
-fn are_answered_for(alloc: Global, program: &Program, normal: &Normal) -> Result<bool, NoMemory>
+/// Whether questions get their answers from a tester of a normal form.
+fn are_answered_for(
+    alloc: Global,
+    program: &Program,
+    normal: &Normal,
+    questions: &[Question],
+) -> Result<bool, NoMemory>
     requires normal { IsNormal normal.now }
     requires form { IsNormalFormOf normal.now program.now }
 {
     match Scene::open(alloc, program, normal)? {
         None => Ok(false),
-        Some(mut scene) => all_are_answered(alloc, &mut scene),
+        Some(mut scene) => are_all_answered(alloc, &mut scene, questions),
     }
 }
 
-fn are_shown(alloc: Global) -> Result<bool, NoMemory> {
-    let Some(program) = program_of(alloc, ONE_OF_TWO) else {
+fn is_shown(alloc: Global, worked: &Worked) -> Result<bool, NoMemory> {
+    let Some(program) = program_of(alloc, worked.text) else {
         return Ok(false);
     };
     match normalise(alloc, &program) {
         Err(_) => Ok(false),
-        Ok(normal) => are_answered_for(alloc, &program, &normal),
+        Ok(normal) => are_answered_for(alloc, &program, &normal, worked.questions),
     }
 }
 
 #[test]
 fn worked_questions_get_their_answers(rt: HostRuntime) -> Result<(), Fail> {
-    assert!(rt; are_shown(rt.alloc())?);
+    for worked in &WORKED {
+        assert!(rt; is_shown(rt.alloc(), worked)?, "{}", worked.shows);
+    }
     Ok(())
 }

@@ -1,0 +1,117 @@
+// What a tester decides first in a program with four answer sets: what it is told, or what another
+// tester decided last.
+ghost use Rattle.normal_program.specs.Limit.{IsNormal};
+ghost use Rattle.normal_program.specs.Normal.{IsNormalFormOf};
+ghost use Rattle.trial_coherence.specs.Ready.{IsReady};
+
+use crate::trials::scene::{Scene, completed_of};
+use crate::trials::worked_programs::TWO_OF_FOUR;
+use clause_store::Clause;
+use coherence_test::{Asked, Tested};
+use ground_program::Program;
+use item_list::NoMemory;
+use normal_program::Normal;
+use rule_normaliser::normalise;
+use std::alloc::Global;
+use std::test::Fail;
+use trial_inputs::{clause_of, program_of};
+
+/// Literals that are preferred, and the answer set that is found then.
+struct Row {
+    preferred: &'static [u32],
+    set: &'static [bool],
+}
+
+static ROWS: [Row; 4] = [
+    Row {
+        preferred: &[4, 8],
+        set: &[false, false, true, false, true, false],
+    },
+    Row {
+        preferred: &[4, 10],
+        set: &[false, false, true, false, false, true],
+    },
+    Row {
+        preferred: &[8, 6],
+        set: &[false, false, false, true, true, false],
+    },
+    Row {
+        preferred: &[10, 6],
+        set: &[false, false, false, true, false, true],
+    },
+];
+
+/// Whether a tester that is told what to decide first finds this set, and one after it too.
+fn are_found(alloc: Global, scene: &mut Scene, row: &Row) -> Result<bool, NoMemory>
+    requires { IsReady scene.old.program.now scene.old.normal.now scene.old.tester }
+{
+    let lits = clause_of(alloc, row.preferred)?;
+    scene.tester.prefer(lits.as_slice());
+    if !finds(alloc, scene, row.set)? {
+        return Ok(false);
+    }
+    is_found_after(alloc, scene, row)
+}
+
+/// Whether a tester after another finds the set of a row.
+fn is_found_after(alloc: Global, scene: &Scene, row: &Row) -> Result<bool, NoMemory>
+    requires { IsReady scene.now.program.now scene.now.normal.now scene.now.tester }
+{
+    let completed = completed_of(alloc, scene.normal)?;
+    let mut after = scene.followed(alloc, &completed)?;
+    finds(alloc, &mut after, row.set)
+}
+
+/// Whether a tester that is asked for any answer set finds this one.
+fn finds(alloc: Global, scene: &mut Scene, set: &[bool]) -> Result<bool, NoMemory>
+    requires { IsReady scene.old.program.now scene.old.normal.now scene.old.tester }
+    ensures { IsReady scene.new.program.now scene.new.normal.now scene.new.tester }
+{
+    let asked = Asked {
+        assume: Clause::open(),
+        any: None,
+    };
+    let tested = scene.settle(alloc, &asked)?;
+    Ok(is_set(&tested, set))
+}
+
+/// Whether an answer is this set.
+fn is_set(tested: &Option<Tested>, set: &[bool]) -> bool {
+    match tested {
+        Some(Tested::Found(found)) => found.as_slice() == set,
+        _ => false,
+    }
+}
+
+fn are_found_for(
+    alloc: Global,
+    program: &Program,
+    normal: &Normal,
+    row: &Row,
+) -> Result<bool, NoMemory>
+    requires normal { IsNormal normal.now }
+    requires form { IsNormalFormOf normal.now program.now }
+{
+    match Scene::open(alloc, program, normal)? {
+        None => Ok(false),
+        Some(mut scene) => are_found(alloc, &mut scene, row),
+    }
+}
+
+fn is_shown(alloc: Global, row: &Row) -> Result<bool, NoMemory> {
+    let Some(program) = program_of(alloc, TWO_OF_FOUR) else {
+        return Ok(false);
+    };
+    match normalise(alloc, &program) {
+        Err(_) => Ok(false),
+        Ok(normal) => are_found_for(alloc, &program, &normal, row),
+    }
+}
+
+#[test]
+fn what_is_preferred_is_decided_first_and_handed_down(rt: HostRuntime) -> Result<(), Fail> {
+    for (at, row) in ROWS.iter().enumerate() {
+        assert!(rt; is_shown(rt.alloc(), row)?, "row {at}");
+    }
+    Ok(())
+}
