@@ -28,7 +28,7 @@ use Rattle.assumption_engine.proofs.SameLemmas.{model_back, model_same}
 use Rattle.assumption_engine.proofs.SidedLemmas.{sided_same}
 use Rattle.coherence_test.specs.AnswerSets.{answer_sets}
 use Rattle.normal_program.specs.Spent.{selector_clauses}
-use Rattle.coherence_test.specs.Selectors.{IsInUse, MayGive}
+use Rattle.coherence_test.specs.Selectors.{IsInUse, MayAdd}
 use Rattle.coherence_test.specs.Testing.{HasAdded, HasCountedUnits}
 use Rattle.coherence_test.proofs.SelectorLemmas.{all_entailed, behind_is_sided, over_in_use}
 use Rattle.coherence_test.proofs.SelectorLemmas.{IsBehind}
@@ -126,7 +126,7 @@ module _ (normal theory : Normal) (disjunctions : List (List Lit)) (assumed : Li
             record {
               history = on.history.history;
               kind =
-                  All-weaker (answer_sets theory).may_give (MayGive normal disjunctions)
+                  All-weaker (answer_sets theory).may_give (MayAdd normal disjunctions)
                   (λ clause is. inl ((same.may_give clause).1 is)) (given_clauses on.added)
                   on.history.kind;
             };

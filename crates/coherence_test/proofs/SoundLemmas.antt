@@ -31,8 +31,8 @@ use Rattle.assumption_engine.proofs.SameLemmas.{same_itself, same_then}
 use Rattle.coherence_test.specs.AnswerSets.{answer_sets, ExtendsAnswerSet, Theorised}
 use Rattle.normal_program.specs.Spent.{selector_clauses, selector_clauses_from}
 use Rattle.coherence_test.specs.Selectors.{IsImport, IsInUse}
-use Rattle.coherence_test.specs.Selectors.{MayGive}
-use Rattle.coherence_test.specs.Searching.{HasGiven, IsSelectorOf}
+use Rattle.coherence_test.specs.Selectors.{MayAdd, MayGive}
+use Rattle.coherence_test.specs.Searching.{HasGiven, HasGrown, IsSelectorOf}
 use Rattle.coherence_test.specs.Testing.{HasAdded, IsPast, IsSound, selectors}
 use Rattle.coherence_test.proofs.SelectorLemmas.{all_entailed, over_holds, over_in_use}
 
@@ -52,10 +52,10 @@ history_then IsKind before first second one two =
     }
 
 -- the clauses of a tester, and those that were added after them
-pub past_then : (normal : Normal) (old new disjunctions : List (List Lit)) (before after : Counted)
-    → IsPast normal old disjunctions → HasAdded normal disjunctions old new before after
+pub past_then : (normal : Normal) (old new disjunctions : List (List Lit))
+    → IsPast normal old disjunctions → HasGrown normal disjunctions old new
     → All (IsEntailed normal disjunctions) new → IsPast normal new disjunctions
-past_then normal old new disjunctions before after past has entailed =
+past_then normal old new disjunctions past has entailed =
     let base = base_clauses normal in
     record {
       added = past.added ++ has.added;
@@ -84,9 +84,42 @@ sound_entailed normal engine disjunctions same right defined over =
     right.holds values
     (subst (λ all. IsModelOf (answer_sets engine.theory.normal) all values) (sym defined) model))
 
+-- what a test adds may be given
+pub grown : (normal : Normal) (disjunctions old new : List (List Lit)) (before after : Counted)
+    → HasAdded normal disjunctions old new before after → HasGrown normal disjunctions old new
+grown normal disjunctions old new before after has =
+    record {
+      added = has.added;
+      clauses = has.clauses;
+      history =
+          record {
+            history = has.history.history;
+            kind =
+                All-weaker (MayAdd normal disjunctions) (MayGive normal disjunctions)
+                (λ clause is. elim is [ inl local ↦ inl local | inr here ↦ inr (inl here) ])
+                (given_clauses has.added) has.history.kind;
+          };
+    }
+
+-- a clause that is given comes last
+pub grown_last : (normal : Normal) (disjunctions old new : List (List Lit)) (clause : List Lit)
+    → new ≡ old ++ clause ∷ [] → MayGive normal disjunctions clause
+    → HasGrown normal disjunctions old new
+grown_last normal disjunctions old new clause is may =
+    record {
+      added = given clause ∷ [];
+      clauses = is;
+      history =
+          record {
+            history = tt;
+            kind = All-cons (MayGive normal disjunctions) clause [] may
+                (All-nil (MayGive normal disjunctions));
+          };
+    }
+
 -- a clause that is given comes last
 pub given_last : (normal : Normal) (disjunctions old new : List (List Lit)) (clause : List Lit)
-    (count : Counted) → new ≡ old ++ clause ∷ [] → MayGive normal disjunctions clause
+    (count : Counted) → new ≡ old ++ clause ∷ [] → MayAdd normal disjunctions clause
     → HasAdded normal disjunctions old new count count
 given_last normal disjunctions old new clause count is may =
     record {
@@ -96,8 +129,8 @@ given_last normal disjunctions old new clause count is may =
       history =
           record {
             history = tt;
-            kind = All-cons (MayGive normal disjunctions) clause [] may
-                (All-nil (MayGive normal disjunctions));
+            kind = All-cons (MayAdd normal disjunctions) clause [] may
+                (All-nil (MayAdd normal disjunctions));
           };
     }
 
@@ -109,22 +142,22 @@ given_none normal disjunctions clauses count =
       added = [];
       clauses = sym (append-nil clauses);
       counts = ap (λ units. record count { units = units }) (sym (append-nil count.units));
-      history = record { history = tt; kind = All-nil (MayGive normal disjunctions) };
+      history = record { history = tt; kind = All-nil (MayAdd normal disjunctions) };
     }
 
 -- ---- a call
 
 -- the engine after it, with more disjunctions and clauses
 sound_with : (normal : Normal) (old new : Engine Theorised) (disjunctions more : List (List Lit))
-    (before after : Counted) → IsSound normal old disjunctions
+    → IsSound normal old disjunctions
     → MeansTheSame (answer_sets old.theory.normal) (answer_sets new.theory.normal)
     → IsRight (answer_sets new.theory.normal) new.theory.followed new.state new.defined
     → new.dead ≡ false → new.defined ≡ selector_clauses normal more
     → new.state.trail.vars ≡ old.state.trail.vars → AreOver (greatest_body_var normal) more
     → (All (IsEntailed normal more) new.state.clauses → IsPast normal old.state.clauses more)
-    → HasAdded normal more old.state.clauses new.state.clauses before after
+    → HasGrown normal more old.state.clauses new.state.clauses
     → All (All (IsInUse normal (length more))) new.state.clauses → IsSound normal new more
-sound_with normal old new disjunctions more before after sound still right alive defined vars over
+sound_with normal old new disjunctions more sound still right alive defined vars over
     past has in_use =
     let same =
     same_then (answer_sets normal) (answer_sets old.theory.normal)
@@ -139,22 +172,21 @@ sound_with normal old new disjunctions more before after sound still right alive
       over = over;
       in_use = in_use;
       past =
-          past_then normal old.state.clauses new.state.clauses more before after (past entailed) has
-          entailed;
+          past_then normal old.state.clauses new.state.clauses more (past entailed) has entailed;
     }
 
 -- a question
 pub ask_sound : (normal : Normal) (old new : Engine Theorised)
-    (disjunctions : List (List Lit)) (before after : Counted) → IsSound normal old disjunctions
+    (disjunctions : List (List Lit)) → IsSound normal old disjunctions
     → MeansTheSame (answer_sets old.theory.normal) (answer_sets new.theory.normal)
     → IsRight (answer_sets new.theory.normal) new.theory.followed new.state new.defined
     → new.dead ≡ false → new.defined ≡ old.defined
     → new.state.trail.vars ≡ old.state.trail.vars
-    → HasAdded normal disjunctions old.state.clauses new.state.clauses before after
+    → HasGrown normal disjunctions old.state.clauses new.state.clauses
     → All (All (IsInUse normal (length disjunctions))) new.state.clauses
     → IsSound normal new disjunctions
-ask_sound normal old new disjunctions before after sound still right alive defined vars has in_use =
-    sound_with normal old new disjunctions disjunctions before after sound still right alive
+ask_sound normal old new disjunctions sound still right alive defined vars has in_use =
+    sound_with normal old new disjunctions disjunctions sound still right alive
     (defined ∙ sound.defined) vars sound.over (λ entailed. sound.past) has in_use
 
 -- ---- an import
@@ -187,9 +219,8 @@ pub import_sound : (normal : Normal) (old new : Engine Theorised)
     → new.state.trail.vars ≡ old.state.trail.vars
     → new.state.clauses ≡ old.state.clauses ++ clause ∷ [] → IsSound normal new disjunctions
 import_sound normal old new disjunctions clause sound import still right alive defined vars added =
-    let none : Counted = record { limit = 0; units = [] } in
-    ask_sound normal old new disjunctions none none sound still right alive defined vars
-    (given_last normal disjunctions old.state.clauses new.state.clauses clause none added
+    ask_sound normal old new disjunctions sound still right alive defined vars
+    (grown_last normal disjunctions old.state.clauses new.state.clauses clause added
     (inr (inr import)))
     (subst (All (All (IsInUse normal (length disjunctions)))) (sym added)
     (All-push (All (IsInUse normal (length disjunctions))) old.state.clauses clause sound.in_use
@@ -292,16 +323,24 @@ past_more normal clauses disjunctions any past entailed =
     }
 
 -- the clause of a selector in use may be given
+selector_there : (normal : Normal) (disjunctions : List (List Lit)) (any : List Lit)
+    → Contains (selector_clauses normal (disjunctions ++ any ∷ []))
+    (selector_clause (first_selector normal + length disjunctions) any)
+selector_there normal disjunctions any =
+    let first = first_selector normal in
+    let clause = selector_clause (first + length disjunctions) any in
+    subst (λ all. Contains all clause) (sym (defined_push first disjunctions any))
+    (Contains-push (selector_clauses normal disjunctions) clause)
+
 pub may_give_selector : (normal : Normal) (disjunctions : List (List Lit)) (any : List Lit)
     → MayGive normal (disjunctions ++ any ∷ [])
     (selector_clause (first_selector normal + length disjunctions) any)
-may_give_selector normal disjunctions any =
-    let first = first_selector normal in
-    let clause = selector_clause (first + length disjunctions) any in
-    inr
-    (inl
-    (subst (λ all. Contains all clause) (sym (defined_push first disjunctions any))
-    (Contains-push (selector_clauses normal disjunctions) clause)))
+may_give_selector normal disjunctions any = inr (inl (selector_there normal disjunctions any))
+
+may_add_selector : (normal : Normal) (disjunctions : List (List Lit)) (any : List Lit)
+    → MayAdd normal (disjunctions ++ any ∷ [])
+    (selector_clause (first_selector normal + length disjunctions) any)
+may_add_selector normal disjunctions any = inr (selector_there normal disjunctions any)
 
 pub define_sound : (normal : Normal) (old new : Engine Theorised)
     (disjunctions : List (List Lit)) (any : List Lit) → IsSound normal old disjunctions
@@ -320,15 +359,14 @@ define_sound normal old new disjunctions any sound any_over still right alive de
     let clause = selector_clause (first + length disjunctions) any in
     let more = disjunctions ++ any ∷ [] in
     let one_more : length more ≡ length disjunctions + 1 = length-append disjunctions (any ∷ []) in
-    let none : Counted = record { limit = 0; units = [] } in
-    sound_with normal old new disjunctions more none none sound still right alive
+    sound_with normal old new disjunctions more sound still right alive
     (defined ∙ ap (λ all. all ++ clause ∷ []) sound.defined
     ∙ sym (defined_push first disjunctions any)) vars
     (All-push (All (IsOver (greatest_body_var normal))) disjunctions any sound.over any_over)
     (λ entailed. past_more normal old.state.clauses disjunctions any sound.past
     (All-left (IsEntailed normal more) old.state.clauses (clause ∷ [])
     (subst (All (IsEntailed normal more)) added entailed)))
-    (given_last normal more old.state.clauses new.state.clauses clause none added
+    (grown_last normal more old.state.clauses new.state.clauses clause added
     (may_give_selector normal disjunctions any))
     (subst (λ used. All (All (IsInUse normal used)) new.state.clauses) (sym one_more)
     (subst (All (All (IsInUse normal (length disjunctions + 1)))) (sym added)
@@ -407,6 +445,6 @@ pub given_defined : (normal : Normal) (old new clauses added : List (List Lit)) 
     → added ≡ clauses ++ selector_clause var any ∷ [] → HasGiven normal new clauses added
 given_defined normal old new clauses added any var used is put count =
     given_last normal new clauses added (selector_clause var any) count put
-    (subst (λ all. MayGive normal all (selector_clause var any)) (sym used)
-    (subst (λ it. MayGive normal (old ++ any ∷ []) (selector_clause it any)) (sym is)
-    (may_give_selector normal old any)))
+    (subst (λ all. MayAdd normal all (selector_clause var any)) (sym used)
+    (subst (λ it. MayAdd normal (old ++ any ∷ []) (selector_clause it any)) (sym is)
+    (may_add_selector normal old any)))

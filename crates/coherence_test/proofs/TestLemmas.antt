@@ -18,7 +18,7 @@ use Rattle.normal_program.specs.Normal.{greatest_body_var}
 use Rattle.normal_program.specs.Spent.{selector_clauses}
 use Rattle.normal_program.proofs.lemmas.Base.TruthLemmas.{variable-positive}
 use Rattle.assumption_engine.specs.Sided.{positive}
-use Rattle.coherence_test.specs.Selectors.{MayGive}
+use Rattle.coherence_test.specs.Selectors.{MayAdd}
 use Rattle.coherence_test.specs.Searching.{assumed_with, HasGiven, HasSelector}
 use Rattle.coherence_test.specs.Testing.{AreCountedBeside, HasAdded, HasCountedUnits, used_by}
 use Rattle.coherence_test.proofs.SoundLemmas.{history_then}
@@ -45,8 +45,8 @@ added_then normal disjunctions one two three before mid after first second =
           (append_assoc before.units (counted_clauses first.added) (counted_clauses second.added)
           ∙ ap (λ all. before.units ++ all) (sym both.counted_is));
       history =
-          history_then (MayGive normal disjunctions) one first.added second.added first.history
-          (subst (λ all. IsHistoryOf (MayGive normal disjunctions) all second.added) first.clauses
+          history_then (MayAdd normal disjunctions) one first.added second.added first.history
+          (subst (λ all. IsHistoryOf (MayAdd normal disjunctions) all second.added) first.clauses
           second.history);
     }
 

@@ -8,6 +8,7 @@ use Rattle.clause_store.specs.declared.step.Step.{Step}
 use Rattle.clause_store.specs.Clause.{variable}
 use Rattle.clause_store.specs.Trail.{level_of, value_of}
 use Rattle.clause_store.specs.Counted.{Counted}
+use Rattle.clause_store.specs.History.{Added, added_clauses, IsHistoryOf}
 use Rattle.normal_program.specs.declared.normal.Normal.{Normal}
 use Rattle.normal_program.specs.Normal.{first_selector}
 use Rattle.assumption_engine.specs.declared.engine.Engine.{Engine}
@@ -19,6 +20,7 @@ use Rattle.assumption_engine.specs.Answer.{IsAnswer, IsCountedRight}
 use Rattle.assumption_engine.specs.Sided.{positive}
 use Rattle.coherence_test.specs.AnswerSets.{answer_sets, Theorised}
 use Rattle.normal_program.specs.Spent.{selector_clauses}
+use Rattle.coherence_test.specs.Selectors.{MayGive}
 use Rattle.coherence_test.specs.Testing.{HasAdded}
 
 -- a variable is the selector of a disjunction
@@ -46,6 +48,12 @@ assumed_with assume (Some var) = assume ++ positive var.0 ∷ []
 abbrev pub HasGiven : Normal → List (List Lit) → List (List Lit) → List (List Lit) → Type 0
 HasGiven normal disjunctions old new =
     (counted : Counted) → HasAdded normal disjunctions old new counted counted
+
+-- clauses were added, of which some given ones may be from outside
+pub record HasGrown (normal : Normal) (disjunctions old new : List (List Lit)) : Type 0 where
+  pub added : List Added
+  pub clauses : new ≡ old ++ added_clauses added
+  pub history : IsHistoryOf (MayGive normal disjunctions) old added
 
 -- whether the variable of a literal is at most this one
 abbrev pub is_low : ℕ → Lit → Bool

@@ -20,6 +20,11 @@ pub record IsImport (normal : Normal) (clause : List Lit) : Type 0 where
   pub once : HasNoVariableTwice clause
   pub entailed : IsEntailed normal [] clause
 
+-- a clause that a test gives and doesn't count: local, or of a selector in use
+abbrev pub MayAdd : Normal → List (List Lit) → List Lit → Type 0
+MayAdd normal disjunctions clause =
+    IsLocalOver normal clause ⊎ Contains (selector_clauses normal disjunctions) clause
+
 -- a clause that is given and not counted: local, of a selector in use, or from outside
 abbrev pub MayGive : Normal → List (List Lit) → List Lit → Type 0
 MayGive normal disjunctions clause =

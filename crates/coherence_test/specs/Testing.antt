@@ -17,7 +17,7 @@ use Rattle.assumption_engine.specs.Theory.{MeansTheSame}
 use Rattle.coherence_test.specs.declared.asked.Asked.{Asked}
 use Rattle.coherence_test.specs.AnswerSets.{answer_sets, Theorised}
 use Rattle.normal_program.specs.Spent.{selector_clauses}
-use Rattle.coherence_test.specs.Selectors.{IsInUse, MayGive}
+use Rattle.coherence_test.specs.Selectors.{IsInUse, MayAdd, MayGive}
 
 -- what contracts see of a tester: its normal form, its clauses, the disjunctions of the selectors
 -- in use, in the order of these, the clauses that are left to be handed on, and whether it is dead
@@ -62,13 +62,13 @@ pub record MayAsk (normal : Normal) (disjunctions : List (List Lit)) (asked : As
       IfSome asked.any
       (λ any. Contains disjunctions any ⊎ (length disjunctions < selectors normal))
 
--- clauses were added: given ones, and those that were counted
+-- a test added clauses: given ones, none of them from outside, and those that were counted
 pub record HasAdded (normal : Normal) (disjunctions old new : List (List Lit))
     (before after : Counted) : Type 0 where
   pub added : List Added
   pub clauses : new ≡ old ++ added_clauses added
   pub counts : after ≡ record before { units = before.units ++ counted_clauses added }
-  pub history : IsHistoryOf (MayGive normal disjunctions) old added
+  pub history : IsHistoryOf (MayAdd normal disjunctions) old added
 
 -- clauses were counted: they are units beside the clauses that there were, they are entailed with
 -- the disjunctions, and of selectors they have only the negations of some in use

@@ -1,7 +1,7 @@
 use Rattle.std.proofs.Common.{length, subst}
 use Rattle.assumption_engine.specs.Answer.{IsAnswer}
 use Rattle.coherence_test.specs.AnswerSets.{answer_sets}
-use Rattle.coherence_test.proofs.SoundLemmas.{ask_sound}
+use Rattle.coherence_test.proofs.SoundLemmas.{ask_sound, grown}
 use Rattle.assumption_engine.proofs.TurnLemmas.{answer_same}
 use Rattle.coherence_test.proofs.AskLemmas.{asked_added, asked_counted, asked_in_use}
 use Rattle.coherence_test.proofs.search.Search.ask.Goals as goal
@@ -11,12 +11,13 @@ returns-clause-sound c not =
     let old = c.args.self.now in
     let alive = c.ask.ensures.alive not in
     let on = c.ask.ensures.on alive in
-    ask_sound old.normal.now old.engine c.ask.new.self old.disjunctions c.args.budget.now
-    c.ask.new.budget c.requires.sound c.ask.ensures.same (c.ask.ensures.right alive) alive
-    c.ask.ensures.defined on.vars
+    ask_sound old.normal.now old.engine c.ask.new.self old.disjunctions c.requires.sound
+    c.ask.ensures.same (c.ask.ensures.right alive) alive c.ask.ensures.defined on.vars
+    (grown old.normal.now old.disjunctions old.engine.state.clauses
+    c.ask.new.self.state.clauses c.args.budget.now c.ask.new.budget
     (asked_added old.normal.now old.engine.theory.normal old.disjunctions c.args.assumed.now
     old.engine.state c.ask.new.self.state c.args.budget.now c.ask.new.budget
-    c.requires.sound.same on)
+    c.requires.sound.same on))
     (asked_in_use old.normal.now old.engine.theory.normal old.disjunctions c.args.assumed.now
     old.engine.state c.ask.new.self.state c.args.budget.now c.ask.new.budget
     c.requires.sound.same on (length old.disjunctions) c.requires.sound.in_use c.requires.over)
