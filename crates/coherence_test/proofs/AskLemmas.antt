@@ -27,7 +27,8 @@ use Rattle.assumption_engine.specs.Theory.{Meaning, MeansTheSame}
 use Rattle.assumption_engine.proofs.SameLemmas.{model_back, model_same}
 use Rattle.assumption_engine.proofs.SidedLemmas.{sided_same}
 use Rattle.coherence_test.specs.AnswerSets.{answer_sets}
-use Rattle.coherence_test.specs.Selectors.{defined_clauses, IsInUse, MayGive}
+use Rattle.normal_program.specs.Spent.{selector_clauses}
+use Rattle.coherence_test.specs.Selectors.{IsInUse, MayGive}
 use Rattle.coherence_test.specs.Testing.{HasAdded, HasCountedUnits}
 use Rattle.coherence_test.proofs.SelectorLemmas.{all_entailed, behind_is_sided, over_in_use}
 use Rattle.coherence_test.proofs.SelectorLemmas.{IsBehind}
@@ -156,7 +157,7 @@ pub asked_counted : (normal theory : Normal) (total used : ℕ)
     (before after : Counted) → MeansTheSame (answer_sets normal) (answer_sets theory)
     → All (All (IsInUse normal total)) clauses
     → AreOver (greatest_body_var normal) disjunctions
-    → defined ≡ defined_clauses normal disjunctions
+    → defined ≡ selector_clauses normal disjunctions
     → All (IsOver (greatest_body_var normal + used)) assumed
     → HasCounted (answer_sets theory) assumed defined clauses before after
     → HasCountedUnits normal disjunctions clauses used before after

@@ -19,7 +19,6 @@ use Rattle.normal_program.specs.Body.{body_holds}
 use Rattle.normal_program.specs.Normal.{extension, first_selector, greatest_body_var, IsAnswerSetN}
 use Rattle.normal_program.specs.Clauses.{AreChosen, IsEntailed, negative}
 use Rattle.normal_program.specs.Models.{front_of, set_of}
-use Rattle.normal_program.specs.Spent.{selector_clauses_from}
 use Rattle.normal_program.proofs.lemmas.Entailed.ChoiceLemmas.{HoldsIn-front, HoldsIn-longer}
 use Rattle.normal_program.proofs.lemmas.Entailed.ChoiceLemmas.{length-extension}
 use Rattle.normal_program.proofs.lemmas.Entailed.WideLemmas.{selector_clauses-entailed}
@@ -29,32 +28,10 @@ use Rattle.assumption_engine.specs.Sided.{IsOneSided, positive}
 use Rattle.assumption_engine.specs.Theory.{MeansTheSame}
 use Rattle.assumption_engine.proofs.SameLemmas.{model_same}
 use Rattle.coherence_test.specs.AnswerSets.{answer_sets, ExtendsAnswerSet, IsLocalOver}
-use Rattle.coherence_test.specs.Selectors.{defined_clauses, defined_from, IsInUse}
+use Rattle.normal_program.specs.Spent.{selector_clauses}
+use Rattle.coherence_test.specs.Selectors.{IsInUse}
 
 -- ---- models with selectors
-
--- a clause that holds does so with its first literal put last
-put_last : (values : List Bool) (lit : Lit) (any : List Lit) → HoldsIn values (lit ∷ any)
-    → HoldsIn values (any ++ lit ∷ [])
-put_last values lit any holds =
-    any_through (IsTrueIn values) (IsTrueIn values) (lit ∷ any) (any ++ lit ∷ [])
-    (All-cons (Contains (any ++ lit ∷ [])) lit any (Contains-push any lit)
-    (All-weaker (Contains any) (Contains (any ++ lit ∷ []))
-    (λ one here. Contains-append_left any (lit ∷ []) one here) any (All-contains_itself any)))
-    (λ one is. is) holds
-
-defined_meet : (values : List Bool) (first : ℕ) (disjunctions : List (List Lit))
-    → Meets values (selector_clauses_from first disjunctions)
-    → Meets values (defined_from first disjunctions)
-defined_meet values first [] meets = All-nil (HoldsIn values)
-defined_meet values first (any ∷ rest) meets =
-    All-cons (HoldsIn values) (selector_clause first any) (defined_from (first + 1) rest)
-    (put_last values (negative first) any
-    (All-head (HoldsIn values) (negative first ∷ any) (selector_clauses_from (first + 1) rest)
-    meets))
-    (defined_meet values (first + 1) rest
-    (All-tail (HoldsIn values) (negative first ∷ any) (selector_clauses_from (first + 1) rest)
-    meets))
 
 -- the set of an assignment that begins with its extension
 set_of_extension : (normal : Normal) (set rest : List Bool) → length set ≡ normal.atoms + 1
@@ -86,7 +63,7 @@ front_of_extension normal set rest positions =
 pub chosen_model : (normal : Normal) (disjunctions : List (List Lit)) (set chosen : List Bool)
     → IsAnswerSetN normal set → AreOver (greatest_body_var normal) disjunctions
     → AreChosen (extension normal set set) disjunctions chosen
-    → IsModelOf (answer_sets normal) (defined_clauses normal disjunctions)
+    → IsModelOf (answer_sets normal) (selector_clauses normal disjunctions)
     (extension normal set set ++ chosen)
 chosen_model normal disjunctions set chosen answer over are =
     let values = extension normal set set ++ chosen in
@@ -100,9 +77,8 @@ chosen_model normal disjunctions set chosen answer over are =
                 (sym same) (front_of_extension normal set chosen answer.over.positions);
           };
       meets =
-          defined_meet values (first_selector normal) disjunctions
-          (λ k d within.
-          selector_clauses-entailed normal disjunctions over k d within set chosen answer are);
+          λ k d within.
+          selector_clauses-entailed normal disjunctions over k d within set chosen answer are;
     }
 
 -- so what holds in all models is entailed
@@ -110,12 +86,12 @@ pub all_entailed : (normal theory : Normal) (disjunctions units : List (List Lit
     → MeansTheSame (answer_sets normal) (answer_sets theory)
     → AreOver (greatest_body_var normal) disjunctions
     → ((values : List Bool)
-    → IsModelOf (answer_sets theory) (defined_clauses normal disjunctions) values
+    → IsModelOf (answer_sets theory) (selector_clauses normal disjunctions) values
     → Meets values units)
     → All (IsEntailed normal disjunctions) units
 all_entailed normal theory disjunctions units same over holds k d within set chosen answer are =
     holds (extension normal set set ++ chosen)
-    (model_same (answer_sets normal) (answer_sets theory) (defined_clauses normal disjunctions)
+    (model_same (answer_sets normal) (answer_sets theory) (selector_clauses normal disjunctions)
     (extension normal set set ++ chosen) same
     (chosen_model normal disjunctions set chosen answer over are)) k d within
 

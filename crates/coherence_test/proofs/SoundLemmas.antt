@@ -29,7 +29,8 @@ use Rattle.assumption_engine.specs.Engine.{IsModelOf, IsRight}
 use Rattle.assumption_engine.specs.Theory.{MeansTheSame}
 use Rattle.assumption_engine.proofs.SameLemmas.{same_itself, same_then}
 use Rattle.coherence_test.specs.AnswerSets.{answer_sets, ExtendsAnswerSet, Theorised}
-use Rattle.coherence_test.specs.Selectors.{defined_clauses, defined_from, IsImport, IsInUse}
+use Rattle.normal_program.specs.Spent.{selector_clauses, selector_clauses_from}
+use Rattle.coherence_test.specs.Selectors.{IsImport, IsInUse}
 use Rattle.coherence_test.specs.Selectors.{MayGive}
 use Rattle.coherence_test.specs.Searching.{HasGiven, IsSelectorOf}
 use Rattle.coherence_test.specs.Testing.{HasAdded, IsPast, IsSound, selectors}
@@ -74,7 +75,7 @@ pub sound_entailed : (normal : Normal) (engine : Engine Theorised)
     (disjunctions : List (List Lit))
     → MeansTheSame (answer_sets normal) (answer_sets engine.theory.normal)
     → IsRight (answer_sets engine.theory.normal) engine.theory.followed engine.state engine.defined
-    → engine.defined ≡ defined_clauses normal disjunctions
+    → engine.defined ≡ selector_clauses normal disjunctions
     → AreOver (greatest_body_var normal) disjunctions
     → All (IsEntailed normal disjunctions) engine.state.clauses
 sound_entailed normal engine disjunctions same right defined over =
@@ -118,7 +119,7 @@ sound_with : (normal : Normal) (old new : Engine Theorised) (disjunctions more :
     (before after : Counted) → IsSound normal old disjunctions
     → MeansTheSame (answer_sets old.theory.normal) (answer_sets new.theory.normal)
     → IsRight (answer_sets new.theory.normal) new.theory.followed new.state new.defined
-    → new.dead ≡ false → new.defined ≡ defined_clauses normal more
+    → new.dead ≡ false → new.defined ≡ selector_clauses normal more
     → new.state.trail.vars ≡ old.state.trail.vars → AreOver (greatest_body_var normal) more
     → (All (IsEntailed normal more) new.state.clauses → IsPast normal old.state.clauses more)
     → HasAdded normal more old.state.clauses new.state.clauses before after
@@ -199,8 +200,9 @@ import_sound normal old new disjunctions clause sound import still right alive d
 
 -- its clause comes last among those of the selectors
 pub defined_push : (first : ℕ) (disjunctions : List (List Lit)) (any : List Lit)
-    → defined_from first (disjunctions ++ any ∷ [])
-    ≡ defined_from first disjunctions ++ selector_clause (first + length disjunctions) any ∷ []
+    → selector_clauses_from first (disjunctions ++ any ∷ [])
+    ≡ selector_clauses_from first disjunctions
+    ++ selector_clause (first + length disjunctions) any ∷ []
 defined_push first [] any =
     let start : first ≡ first + 0 = omega arith in
     ap (λ var. selector_clause var any ∷ []) start
@@ -208,7 +210,7 @@ defined_push first (one ∷ rest) any =
     let next : first + 1 + length rest ≡ first + suc (length rest) = omega arith in
     ap (λ all. selector_clause first one ∷ all)
     (defined_push (first + 1) rest any
-    ∙ ap (λ var. defined_from (first + 1) rest ++ selector_clause var any ∷ []) next)
+    ∙ ap (λ var. selector_clauses_from (first + 1) rest ++ selector_clause var any ∷ []) next)
 
 -- what may be given with some selectors may be given with more
 may_give_more : (normal : Normal) (disjunctions : List (List Lit)) (any clause : List Lit)
@@ -219,7 +221,7 @@ may_give_more normal disjunctions any clause (inr (inl here)) =
     inr
     (inl
     (subst (λ all. Contains all clause) (sym (defined_push first disjunctions any))
-    (Contains-append_left (defined_clauses normal disjunctions)
+    (Contains-append_left (selector_clauses normal disjunctions)
     (selector_clause (first + length disjunctions) any ∷ []) clause here)))
 may_give_more normal disjunctions any clause (inr (inr import)) = inr (inr import)
 
@@ -299,7 +301,7 @@ may_give_selector normal disjunctions any =
     inr
     (inl
     (subst (λ all. Contains all clause) (sym (defined_push first disjunctions any))
-    (Contains-push (defined_clauses normal disjunctions) clause)))
+    (Contains-push (selector_clauses normal disjunctions) clause)))
 
 pub define_sound : (normal : Normal) (old new : Engine Theorised)
     (disjunctions : List (List Lit)) (any : List Lit) → IsSound normal old disjunctions

@@ -38,7 +38,7 @@ use Rattle.coherence_test.specs.declared.asked.Asked.{Asked}
 use Rattle.coherence_test.specs.declared.asked.Core.{Core as Told}
 use Rattle.coherence_test.specs.AnswerSets.{answer_sets, Theorised}
 use Rattle.coherence_test.specs.Asked.{Answers, IsCoreFor, IsSpentFor, MeetsCore}
-use Rattle.coherence_test.specs.Selectors.{defined_clauses, defined_from}
+use Rattle.normal_program.specs.Spent.{selector_clauses, selector_clauses_from}
 use Rattle.coherence_test.specs.Searching.{assumed_with, HasSelector, is_low, IsSelectorOf, Says}
 use Rattle.coherence_test.proofs.SelectorLemmas.{begins, chosen_model}
 
@@ -80,19 +80,20 @@ module _ (normal : Normal) (values set : List Bool) (set_over : IsSetOver normal
 -- the clause of a selector in use
 defined_at : (first : ℕ) (disjunctions : List (List Lit)) (at : ℕ) (any : List Lit)
     → slice_get disjunctions at ≡ Some any
-    → Contains (defined_from first disjunctions) (selector_clause (first + at) any)
+    → Contains (selector_clauses_from first disjunctions) (selector_clause (first + at) any)
 defined_at first [] at any here = absurd (cc)
 defined_at first (one ∷ rest) zero any here =
     let same : one ≡ any = same_Some one any here in
     let start : first ≡ first + 0 = omega arith in
-    subst (λ it. Contains (defined_from first (one ∷ rest)) (selector_clause it any)) start
-    (subst (λ it. Contains (defined_from first (one ∷ rest)) (selector_clause first it)) same
-    (has_first (selector_clause first one) (defined_from (first + 1) rest)))
+    let all = selector_clauses_from first (one ∷ rest) in
+    subst (λ it. Contains all (selector_clause it any)) start
+    (subst (λ it. Contains all (selector_clause first it)) same
+    (has_first (selector_clause first one) (selector_clauses_from (first + 1) rest)))
 defined_at first (one ∷ rest) (suc at) any here =
     let next : first + 1 + at ≡ first + suc at = omega arith in
-    subst (λ it. Contains (defined_from first (one ∷ rest)) (selector_clause it any)) next
+    subst (λ it. Contains (selector_clauses_from first (one ∷ rest)) (selector_clause it any)) next
     (has_later (selector_clause first one) (selector_clause (first + 1 + at) any)
-    (defined_from (first + 1) rest) (defined_at (first + 1) rest at any here))
+    (selector_clauses_from (first + 1) rest) (defined_at (first + 1) rest at any here))
 
 -- where the selector is true its disjunction holds
 selector_holds : (values : List Bool) (var : ℕ) (any : List Lit)
@@ -113,12 +114,12 @@ some_holds : (normal : Normal) (disjunctions : List (List Lit)) (assume : List L
     (any : Option (List Lit)) (selector : Option Var) (values : List Bool)
     → HasSelector normal disjunctions any selector
     → All (IsTrueIn values) (assumed_with assume selector)
-    → Meets values (defined_clauses normal disjunctions) → IfSome any (HoldsIn values)
+    → Meets values (selector_clauses normal disjunctions) → IfSome any (HoldsIn values)
 some_holds normal disjunctions assume None selector values has true_lits meets = tt
 some_holds normal disjunctions assume (Some any) None values has true_lits meets = absurd has
 some_holds normal disjunctions assume (Some any) (Some var) values has true_lits meets =
     let clause =
-    All-contains (HoldsIn values) (defined_clauses normal disjunctions)
+    All-contains (HoldsIn values) (selector_clauses normal disjunctions)
     (selector_clause (first_selector normal + has.at) any) meets
     (defined_at (first_selector normal) disjunctions has.at any has.here) in
     selector_holds values var.0 any
@@ -148,7 +149,7 @@ module _ (normal : Normal) (disjunctions : List (List Lit)) (asked : Asked)
     (set_over : IsSetOver normal.atoms set)
     (extends : front_of normal values ≡ extension normal set set)
     (true_lits : All (IsTrueIn values) (assumed_with asked.assume selector))
-    (meets : Meets values (defined_clauses normal disjunctions)) where
+    (meets : Meets values (selector_clauses normal disjunctions)) where
   assumed_true : All (IsTrueIn (extension normal set set)) asked.assume
   assumed_true k d within =
       true_in_front normal values set set_over extends (get_or asked.assume k d) (over k d within)
@@ -188,7 +189,7 @@ module _ (normal : Normal) (disjunctions : List (List Lit)) (asked : Asked)
     (selector : Option Var) (found : List Lit) (core : Told)
     (over : All (IsOver (greatest_body_var normal)) asked.assume)
     (has : HasSelector normal disjunctions asked.any selector)
-    (is : IsCoreOf (answer_sets normal) (defined_clauses normal disjunctions)
+    (is : IsCoreOf (answer_sets normal) (selector_clauses normal disjunctions)
     (assumed_with asked.assume selector) found)
     (lits : core.lits ≡ filter (is_low (greatest_body_var normal)) found)
     (any_is : (IsTrue core.any → Any (λ lit. greatest_body_var normal < variable lit) found)

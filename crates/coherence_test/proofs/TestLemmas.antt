@@ -2,7 +2,7 @@
 use Rattle.std.proofs.Common.{◌≡◌, ◌+◌, List, ◌++◌, Option, Some, None, length}
 use Rattle.std.proofs.Common.{ℕ, sym, ap, ◌∙◌, subst, arith, append_assoc}
 use Rattle.std.specs.Prelude.{All, Contains}
-use Rattle.std.proofs.lemmas.List.Elements.{All-contains_itself, All-push, All-weaker}
+use Rattle.std.proofs.lemmas.List.Elements.{All-append, All-contains_itself, All-push, All-weaker}
 use Rattle.std.proofs.lemmas.List.Elements.{Contains-append_left}
 use Rattle.std.proofs.lemmas.Option.{slice_get_within}
 use Rattle.clause_store.specs.declared.literal.Lit.{Lit}
@@ -15,11 +15,12 @@ use Rattle.clause_store.proofs.lemmas.Units.HistoryLemmas.{histories_add}
 use Rattle.clause_store.proofs.lemmas.Units.UnitLemmas.{units_among_fewer}
 use Rattle.normal_program.specs.declared.normal.Normal.{Normal}
 use Rattle.normal_program.specs.Normal.{greatest_body_var}
+use Rattle.normal_program.specs.Spent.{selector_clauses}
 use Rattle.normal_program.proofs.lemmas.Base.TruthLemmas.{variable-positive}
 use Rattle.assumption_engine.specs.Sided.{positive}
 use Rattle.coherence_test.specs.Selectors.{MayGive}
 use Rattle.coherence_test.specs.Searching.{assumed_with, HasGiven, HasSelector}
-use Rattle.coherence_test.specs.Testing.{HasAdded, HasCountedUnits, used_by}
+use Rattle.coherence_test.specs.Testing.{AreCountedBeside, HasAdded, HasCountedUnits, used_by}
 use Rattle.coherence_test.proofs.SoundLemmas.{history_then}
 
 -- clauses that were added one after another
@@ -124,3 +125,38 @@ test_counts old mid used disjunctions one two assume any selector before after i
     (counted (used_by any used)
     (subst (λ normal. All (IsOver (greatest_body_var normal + used_by any used))
     (assumed_with assume selector)) (sym is) over_all)))
+
+-- what was counted beside the clauses with the selectors' is worth counting beside these
+pub test_beside : (old mid : Normal) (used disjunctions defined one two : List (List Lit))
+    (assume : List Lit) (any : Option (List Lit)) (selector : Option Var) (before after : Counted)
+    → mid ≡ old → disjunctions ≡ used → HasGiven old used one two
+    → defined ≡ selector_clauses mid used → AreMoreClauses defined two
+    → HasSelector old used any selector → All (IsOver (greatest_body_var old)) assume
+    → ((count : ℕ)
+    → All (IsOver (greatest_body_var mid + count)) (assumed_with assume selector)
+    → HasCountedUnits mid used two count before after)
+    → AreCountedBeside (one ++ selector_clauses old disjunctions) before after
+test_beside old mid used disjunctions defined one two assume any selector before after is same
+    given are kept has over counted =
+    let over_all = assumed_over old used assume any selector has over in
+    let here = counted (used_by any used)
+    (subst (λ normal. All (IsOver (greatest_body_var normal + used_by any used))
+    (assumed_with assume selector)) (sym is) over_all) in
+    let selectors : defined ≡ selector_clauses old disjunctions =
+    are ∙ ap (λ normal. selector_clauses normal used) is
+    ∙ ap (λ all. selector_clauses old all) (sym same) in
+    let first : AreMoreClauses one two =
+    subst (AreMoreClauses one) (sym (given before).clauses)
+    (All-weaker (Contains one) (Contains (one ++ added_clauses (given before).added))
+    (λ clause there. Contains-append_left one (added_clauses (given before).added) clause there)
+    one (All-contains_itself one)) in
+    let more : AreMoreClauses (one ++ selector_clauses old disjunctions) two =
+    All-append (Contains two) one (selector_clauses old disjunctions) first
+    (subst (λ all. AreMoreClauses all two) selectors kept) in
+    record {
+      units = here.units;
+      counts = here.counts;
+      are =
+          units_among_fewer (one ++ selector_clauses old disjunctions) two here.units more
+          here.are;
+    }

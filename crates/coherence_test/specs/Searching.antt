@@ -18,7 +18,7 @@ use Rattle.assumption_engine.specs.declared.answer.Answer.TheVariants.{NoMemory}
 use Rattle.assumption_engine.specs.Answer.{IsAnswer, IsCountedRight}
 use Rattle.assumption_engine.specs.Sided.{positive}
 use Rattle.coherence_test.specs.AnswerSets.{answer_sets, Theorised}
-use Rattle.coherence_test.specs.Selectors.{defined_clauses}
+use Rattle.normal_program.specs.Spent.{selector_clauses}
 use Rattle.coherence_test.specs.Testing.{HasAdded}
 
 -- a variable is the selector of a disjunction
@@ -56,7 +56,7 @@ abbrev pub Says :
     Normal → Engine Theorised → List (List Lit) → List Lit → Answer → Type 0
 Says normal engine disjunctions assumed answer =
     (limit : ℕ)
-    × IsAnswer (answer_sets normal) (defined_clauses normal disjunctions) assumed limit
+    × IsAnswer (answer_sets normal) (selector_clauses normal disjunctions) assumed limit
     engine.state.trail answer
 
 -- a literal is false by the assignments of level 0

@@ -4,19 +4,10 @@ use Rattle.std.specs.Prelude.{Option, None, Some, ◌⊎◌}
 use Rattle.clause_store.specs.declared.literal.Lit.{Lit}
 use Rattle.clause_store.specs.Clause.{HasNoVariableTwice, IsOver, is_negated, variable}
 use Rattle.normal_program.specs.declared.normal.Normal.{Normal}
-use Rattle.normal_program.specs.Normal.{first_selector, greatest_body_var}
+use Rattle.normal_program.specs.Normal.{greatest_body_var}
 use Rattle.normal_program.specs.Clauses.{IsEntailed}
-use Rattle.assumption_engine.specs.Selector.{selector_clause}
+use Rattle.normal_program.specs.Spent.{selector_clauses}
 use Rattle.coherence_test.specs.AnswerSets.{IsLocalOver}
-
--- the clauses of the selectors in use, from one on: each is false, or its disjunction holds
-abbrev pub defined_from : ℕ → List (List Lit) → List (List Lit)
-defined_from first [] = []
-defined_from first (any ∷ rest) = selector_clause first any ∷ defined_from (first + 1) rest
-
--- those of a normal form, whose disjunctions these are
-abbrev pub defined_clauses : Normal → List (List Lit) → List (List Lit)
-defined_clauses normal disjunctions = defined_from (first_selector normal) disjunctions
 
 -- the variable is that of an atom, of a body or of one of so many selectors, and these are denied
 pub record IsInUse (normal : Normal) (used : ℕ) (lit : Lit) : Type 0 where
@@ -33,7 +24,7 @@ pub record IsImport (normal : Normal) (clause : List Lit) : Type 0 where
 abbrev pub MayGive : Normal → List (List Lit) → List Lit → Type 0
 MayGive normal disjunctions clause =
     IsLocalOver normal clause
-    ⊎ (Contains (defined_clauses normal disjunctions) clause ⊎ IsImport normal clause)
+    ⊎ (Contains (selector_clauses normal disjunctions) clause ⊎ IsImport normal clause)
 
 -- the disjunctions after a test: those before, and that of the test if there is one and it is new
 abbrev pub AreUsed : List (List Lit) → Option (List Lit) → List (List Lit) → Type 0

@@ -16,7 +16,8 @@ use Rattle.assumption_engine.specs.Engine.{IsRight}
 use Rattle.assumption_engine.specs.Theory.{MeansTheSame}
 use Rattle.coherence_test.specs.declared.asked.Asked.{Asked}
 use Rattle.coherence_test.specs.AnswerSets.{answer_sets, Theorised}
-use Rattle.coherence_test.specs.Selectors.{defined_clauses, IsInUse, MayGive}
+use Rattle.normal_program.specs.Spent.{selector_clauses}
+use Rattle.coherence_test.specs.Selectors.{IsInUse, MayGive}
 
 -- what contracts see of a tester: its normal form, its clauses, the disjunctions of the selectors
 -- in use, in the order of these, the clauses that are left to be handed on, and whether it is dead
@@ -79,6 +80,12 @@ pub record HasCountedUnits (normal : Normal) (disjunctions clauses : List (List 
   pub entailed : All (IsEntailed normal disjunctions) units
   pub in_use : All (All (IsInUse normal used)) units
 
+-- clauses were counted that are units beside these
+pub record AreCountedBeside (clauses : List (List Lit)) (before after : Counted) : Type 0 where
+  pub units : List (List Lit)
+  pub counts : after ≡ record before { units = before.units ++ units }
+  pub are : AreUnits clauses units
+
 -- how many selectors the counted clauses of a test may have: none where it has no disjunction
 abbrev pub used_by : Option (List Lit) → List (List Lit) → ℕ
 used_by None disjunctions = 0
@@ -93,7 +100,7 @@ pub record IsSound (normal : Normal) (engine : Engine Theorised)
       engine.defined
   pub alive : engine.dead ≡ false
   pub vars : engine.state.trail.vars ≡ variables normal
-  pub defined : engine.defined ≡ defined_clauses normal disjunctions
+  pub defined : engine.defined ≡ selector_clauses normal disjunctions
   pub over : AreOver (greatest_body_var normal) disjunctions
   pub in_use : All (All (IsInUse normal (length disjunctions))) engine.state.clauses
   pub past : IsPast normal engine.state.clauses disjunctions

@@ -6,12 +6,14 @@ ghost use Rattle.clause_store.specs.Clause.{AreOver, HasNoVariableTwice, IsOver}
 ghost use Rattle.clause_store.specs.Counted.{Counted};
 ghost use Rattle.normal_program.specs.Normal.{first_selector, greatest_body_var};
 ghost use Rattle.normal_program.specs.Limit.{IsNormal};
+ghost use Rattle.normal_program.specs.Spent.{selector_clauses};
 ghost use Rattle.assumption_engine.specs.Selector.{selector_clause};
 ghost use Rattle.coherence_test.specs.Asked.{IsTested, IsTestedAt};
 ghost use Rattle.coherence_test.specs.Selectors.{AreUsed, IsImport};
 ghost use Rattle.coherence_test.specs.Searching.{HasGiven, HasSelector, IsSelectorOf, Says};
 ghost use Rattle.coherence_test.specs.Searching.{assumed_with, IsAnsweredAt};
-ghost use Rattle.coherence_test.specs.Testing.{HasAdded, HasCountedUnits, IsSound, MayAsk};
+ghost use Rattle.coherence_test.specs.Testing.{AreCountedBeside, HasAdded, HasCountedUnits};
+ghost use Rattle.coherence_test.specs.Testing.{IsSound, MayAsk};
 ghost use Rattle.coherence_test.specs.Testing.{selectors, used_by};
 
 use crate::asked::{Asked, Tested};
@@ -72,6 +74,9 @@ impl<'a> Search<'a> {
         ensures counted { HasCountedUnits self.old.normal.now self.new.disjunctions
             self.old.engine.state.clauses (used_by asked.now.any self.new.disjunctions)
             budget.old budget.new }
+        ensures beside { OnOk result (AreCountedBeside (self.old.engine.state.clauses
+            ++ selector_clauses self.old.normal.now self.new.disjunctions)
+            budget.old budget.new) }
         ensures answer { IfOk result (IsTested self.old.normal.now asked.now) }
         ensures at { IfOk result (IsTestedAt (length budget.old.units + slice) budget.new) }
         ensures normal { self.new.normal ≡ self.old.normal }

@@ -4,11 +4,13 @@ ghost use Rattle.std.specs.Prelude.{false, true, option_to_list, IfNone, IfSome}
 ghost use Rattle.std.specs.Prelude.{length};
 ghost use Rattle.normal_program.specs.Clauses.{base_clauses};
 ghost use Rattle.normal_program.specs.Limit.{IsNormal};
+ghost use Rattle.normal_program.specs.Spent.{selector_clauses};
 ghost use Rattle.short_clauses.specs.Shareable.{IsShareable};
 ghost use Rattle.coherence_test.specs.Asked.{IsTested, IsTestedAt};
 ghost use Rattle.coherence_test.specs.Selectors.{AreUsed, IsImport};
 ghost use Rattle.coherence_test.specs.Sharing.{HasNoted};
-ghost use Rattle.coherence_test.specs.Testing.{HasAdded, HasCountedUnits, IsPast, MayAsk};
+ghost use Rattle.coherence_test.specs.Testing.{AreCountedBeside, HasAdded, HasCountedUnits};
+ghost use Rattle.coherence_test.specs.Testing.{IsPast, MayAsk};
 ghost use Rattle.coherence_test.specs.Testing.{opened, selectors, used_by};
 
 use crate::asked::{Asked, Tested};
@@ -186,6 +188,11 @@ impl<'a> Tester<'a> {
             self.old.clauses self.new.clauses budget.old budget.new }
         ensures counted { HasCountedUnits self.old.normal self.new.disjunctions self.old.clauses
             (used_by asked.now.any self.new.disjunctions) budget.old budget.new }
+
+        // It is worth counting beside the clauses of the selectors in use too.
+        ensures beside { result ≢ Tested.NoMemory → AreCountedBeside
+            (self.old.clauses ++ selector_clauses self.old.normal self.new.disjunctions)
+            budget.old budget.new }
 
         // What of it is to be handed on.
         ensures noted { result ≢ Tested.NoMemory

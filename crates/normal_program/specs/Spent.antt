@@ -95,7 +95,7 @@ pub record IsSpentTest (normal : Normal) (test : SpentTest) : Type 0 where
 abbrev pub selector_clauses_from : ℕ → List (List Lit) → List (List Lit)
 selector_clauses_from first [] = []
 selector_clauses_from first (any ∷ rest) =
-    (negative first ∷ any) ∷ selector_clauses_from (first + 1) rest
+    (any ++ negative first ∷ []) ∷ selector_clauses_from (first + 1) rest
 
 -- the clauses of the selectors in use, whose disjunctions these are
 abbrev pub selector_clauses : Normal → List (List Lit) → List (List Lit)

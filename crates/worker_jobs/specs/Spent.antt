@@ -13,10 +13,10 @@ use Rattle.worker_jobs.specs.declared.gain.RoundEnd.TheVariants.{SpentWide, NoMe
 use Rattle.worker_jobs.specs.Job.{test_literal}
 
 -- a test of the worker with this number, of this literal or of none, used up this budget
-pub record IsMarkedBy (number budget : ℕ) (literal : Option Lit) (test : SpentTest) : Type 0 where
+pub record IsMarkedBy (number limit : ℕ) (tested : Option Lit) (test : SpentTest) : Type 0 where
   pub by : test.by ≡ number
-  pub budget : test.budget ≡ budget
-  pub literal : test.literal ≡ literal
+  pub budget : test.budget ≡ limit
+  pub literal : test.literal ≡ tested
 
 -- and it is a spent test
 pub record IsSpentBy (normal : Normal) (number budget : ℕ) (literal : Option Lit)

@@ -9,7 +9,8 @@ use Rattle.std.proofs.lemmas.List.Elements.{All-nil, All-cons, All-head, All-tai
 use Rattle.std.proofs.lemmas.List.Elements.{Contains-append_left}
 use Rattle.std.proofs.lemmas.List.Elements.{Contains-get_or}
 use Rattle.clause_store.specs.declared.literal.Lit.{Lit}
-use Rattle.clause_store.specs.Clause.{truth, HoldsIn, AreOver}
+use Rattle.item_list.proofs.ListLemmas.{Any-append_left}
+use Rattle.clause_store.specs.Clause.{truth, makes_true, HoldsIn, IsTrueIn, AreOver}
 use Rattle.clause_store.specs.Entailment.{AreUnits}
 use Rattle.clause_store.proofs.lemmas.Units.UnitLemmas.{units_among_fewer}
 use Rattle.normal_program.specs.declared.normal.Normal.{Normal}
@@ -21,6 +22,13 @@ use Rattle.normal_program.specs.Spent.{AreUnitsWithin, IsSpentTest, IsWideSpentT
 use Rattle.normal_program.proofs.lemmas.Base.TruthLemmas.{makes_true-negative, HoldsIn-here}
 use Rattle.normal_program.proofs.lemmas.Base.TruthLemmas.{HoldsIn-there}
 use Rattle.normal_program.proofs.lemmas.Entailed.ChoiceLemmas.{HoldsIn-longer, length-extension}
+
+-- a clause holds by its last literal
+holds_last : (values : List Bool) (any : List Lit) (lit : Lit) → makes_true values lit ≡ true
+    → HoldsIn values (any ++ lit ∷ [])
+holds_last values [] lit is = HoldsIn-here values lit [] is
+holds_last values (one ∷ rest) lit is =
+    HoldsIn-there values one (rest ++ lit ∷ []) (holds_last values rest lit is)
 
 module _ (values whole : List Bool) where
   -- the clauses of selectors hold where each that is on has its disjunction true
@@ -34,11 +42,12 @@ module _ (values whole : List Bool) where
   selector_clauses-hold first (any ∷ rest) (on ∷ more) read all longer =
       let start : first ≡ first + 0 = omega arith in
       let here : truth whole first ≡ on = ap (truth whole) start ∙ read 0 in
-      All-cons (HoldsIn whole) (negative first ∷ any) (selector_clauses_from (first + 1) rest)
+      All-cons (HoldsIn whole) (any ++ negative first ∷ [])
+      (selector_clauses_from (first + 1) rest)
       (⊎_elim
-      (λ is_on. HoldsIn-there whole (negative first) any
+      (λ is_on. Any-append_left (IsTrueIn whole) any (negative first ∷ [])
       (All-head (λ one. HoldsIn values one → HoldsIn whole one) any rest longer (all.0 is_on)))
-      (λ is_off. HoldsIn-here whole (negative first) any
+      (λ is_off. holds_last whole any (negative first)
       (makes_true-negative whole first ∙ ap not (here ∙ is_off)))
       (cases_Bool on))
       (selector_clauses-hold (first + 1) rest more

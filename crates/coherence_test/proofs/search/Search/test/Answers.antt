@@ -1,6 +1,6 @@
 use Rattle.std.proofs.Common.{◌+◌, ap, arith, length, subst, sym}
 use Rattle.coherence_test.specs.Searching.{assumed_with, Says}
-use Rattle.coherence_test.proofs.TestLemmas.{test_added, test_counts}
+use Rattle.coherence_test.proofs.TestLemmas.{test_added, test_beside, test_counts}
 use Rattle.coherence_test.proofs.search.Search.test.Goals as goal
 
 pub told-requires-clause-vars : goal.told-requires-clause-vars
@@ -35,6 +35,14 @@ returns-clause-counted c =
     test_counts c.args.self.now.normal.now c.select.new.self.normal.now _ _ _ _ _ _ _ _ _
     (ap (λ it. it.now) selected.normal) c.ask_with-answer.ensures.disjunctions selected.given
     selected.selector c.requires.may.over c.ask_with-answer.ensures.counted
+
+pub returns-clause-beside : goal.returns-clause-beside
+returns-clause-beside c =
+    let selected = c.in_ok-selector.ensures in
+    test_beside c.args.self.now.normal.now c.select.new.self.normal.now _ _ _ _ _ _ _ _ _ _
+    (ap (λ it. it.now) selected.normal) c.ask_with-answer.ensures.disjunctions selected.given
+    selected.sound.defined selected.sound.right.kept selected.selector c.requires.may.over
+    c.ask_with-answer.ensures.counted
 
 pub returns-in_err-tested-clause-counted : goal.returns-in_err-tested-clause-counted
 returns-in_err-tested-clause-counted c =
