@@ -1,5 +1,5 @@
 // The word of an option, `--name=value`.
-ghost use Rattle.std.specs.Prelude.{◌≡◌, ◌≢◌, ◌++◌, ℕ, List, MatchOption, decimal};
+ghost use Rattle.std.specs.Prelude.{◌≡◌, ◌≢◌, ◌++◌, ◌↔◌, ℕ, List, IsTrue, MatchOption, decimal};
 ghost use Rattle.worker_jobs.specs.declared.job.Strategy.{Strategy};
 ghost use Rattle.run_words.specs.declared.choice.Choice.{Choice};
 ghost use Rattle.run_words.specs.Words.{IsUpTo, IsNamed, strategy_word, IsChoice, choice_word};
@@ -9,6 +9,7 @@ use worker_jobs::Strategy;
 
 // The greatest values.
 const MOST_BUDGET: u32 = 1_000_000_000;
+
 const MOST_SLICE: u32 = 1_000_000;
 
 // How many candidates a chunk has.
@@ -67,10 +68,20 @@ fn read_number(text: &str, most: u32) -> Option<u32>
         (λ number. IsUpTo most number × (text.now ≡ decimal number)) }
 {
     let number: u32 = text.parse().ok()?;
-    let mut digits = Buffer::new();
-    if digits.format(number) == text && 1 <= number && number <= most {
+    if !is_decimal(text, number) {
+        return None;
+    }
+    if 1 <= number && number <= most {
         Some(number)
     } else {
         None
     }
+}
+
+// Whether the text is just the number in decimal, without a sign or leading zeros.
+fn is_decimal(text: &str, number: u32) -> bool
+    ensures { IsTrue result ↔ (text.now ≡ decimal number) }
+{
+    let mut digits = Buffer::new();
+    digits.format(number) == text
 }

@@ -12,8 +12,11 @@ use worker_jobs::Strategy;
 
 // What the settings are where no word says another.
 const WORKERS: u32 = 1;
+
 const WATCH: u32 = 0;
+
 const BUDGET: u32 = 100_000;
+
 const SLICE: u32 = 256;
 
 /// Reads the words of a call, without the program's own name. The first is `cautious` or `brave`,
