@@ -1,0 +1,3 @@
+mod ChoiceLemmas
+mod OptionLemmas
+mod OrderLemmas
