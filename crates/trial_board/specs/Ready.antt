@@ -1,7 +1,7 @@
 -- What a scene of the board is.
 use Rattle.std.specs.Prelude.{◌≡◌, length}
 use Rattle.ground_program.specs.declared.program.Program.{Program}
-use Rattle.ground_program.specs.declared.program.Mode.TheVariants.{Cautious}
+use Rattle.ground_program.specs.declared.program.Mode.{Mode}
 use Rattle.ground_program.specs.declared.pair.Pair.{Pair}
 use Rattle.ground_program.specs.Program.{IsProgram}
 use Rattle.ground_program.specs.Bounds.{IsPairOver}
@@ -12,13 +12,13 @@ use Rattle.bounds_board.specs.declared.board.Board.{Board}
 use Rattle.bounds_board.specs.Board.{IsSeatOf, mode_of, normal_of}
 use Rattle.bounds_board.specs.Rule.{Place}
 
--- a board of a program's normal form in cautious mode, a seat of it, and a pair for its candidates
-pub record IsReady (program : Program) (normal : Normal) (board : Board) (seat : Place)
-    (pair : Pair) : Type 0 where
+-- a board of a program's normal form in this mode, a seat of it, and a pair for its candidates
+pub record IsReady (mode : Mode) (program : Program) (normal : Normal) (board : Board)
+    (seat : Place) (pair : Pair) : Type 0 where
   pub valid : IsProgram program
   pub is_normal : IsNormal normal
   pub form : IsNormalFormOf normal program
   pub about : normal_of board ≡ normal
-  pub asked : mode_of board ≡ Cautious
+  pub asked : mode_of board ≡ mode
   pub of_board : IsSeatOf board seat
   pub over : IsPairOver (length (normal_of board).names) pair

@@ -8,7 +8,7 @@ ghost use Rattle.trial_board.specs.Ready.{IsReady};
 
 use crate::trials::scene::{ONE_OF_TWO, Scene};
 use bounds_board::{Board, BoardSeat};
-use ground_program::{Pair, Set};
+use ground_program::{Mode, Pair, Set};
 use item_list::NoMemory;
 use std::alloc::Global;
 use std::test::Fail;
@@ -45,15 +45,15 @@ pub fn report(board: &Board, mut seat: BoardSeat, set: &Set) -> BoardSeat
     seat
 }
 
-/// Whether a reader that reads while an answer set is reported, and then learns a note of the other
-/// seat, has what that set shows: candidate 2 is outside.
+/// What a reader ends with that reads while an answer set is reported, and then learns a note of the
+/// other seat.
 fn reads_at_once<R: Threads>(
     rt: &R,
     board: &Board,
     mut seat: BoardSeat,
     pair: Pair,
     set: &Set,
-) -> bool
+) -> Pair
     requires seat { IsSeatOf board.now seat }
     requires over { IsPairOver (length (normal_of board.now).names) pair }
     requires answer { IsAnswerSetN (normal_of board.now) set.now }
@@ -65,11 +65,11 @@ fn reads_at_once<R: Threads>(
         move || report(board, other, set),
     );
     let noted = board.note(&mut other);
-    has_learnt(board, reading, noted)
+    learn(board, reading, noted)
 }
 
-/// Whether a reader that learns what a noted seat has seen reads that candidate 2 is outside.
-fn has_learnt(board: &Board, reading: Reading, noted: BoardSeat) -> bool
+/// What a reader reads once it has learnt what a noted seat has seen.
+fn learn(board: &Board, reading: Reading, noted: BoardSeat) -> Pair
     requires seat { IsSeatOf board.now reading.seat }
     requires over { IsPairOver (length (normal_of board.now).names) reading.pair }
     requires noted { IsSeatOf board.now noted }
@@ -77,33 +77,48 @@ fn has_learnt(board: &Board, reading: Reading, noted: BoardSeat) -> bool
     let Reading { mut seat, mut pair } = reading;
     board.learn(&mut seat, noted);
     board.read_into(&mut seat, &mut pair);
-    let lower = pair.lower.as_slice() == [false, false, false].as_slice();
-    let upper = pair.upper.as_slice() == [true, false, true].as_slice();
-    lower && upper
+    pair
+}
+
+/// Whether a pair has what the answer set of 2 and 4 shows: candidate 2 as outside in cautious mode,
+/// and the others as inside in brave mode.
+pub fn has_what_is_shown(mode: Mode, pair: &Pair) -> bool {
+    let lower = pair.lower.as_slice();
+    let upper = pair.upper.as_slice();
+    match mode {
+        Mode::Cautious => {
+            lower == [false, false, false].as_slice() && upper == [true, false, true].as_slice()
+        }
+        Mode::Brave => {
+            lower == [true, false, true].as_slice() && upper == [true, true, true].as_slice()
+        }
+    }
 }
 
 /// Whether a reader has what was reported at once: the answer set of 2 and 4.
 fn is_learnt<R: Threads>(rt: &R, alloc: Global, scene: Scene) -> Result<bool, NoMemory>
-    requires { IsReady scene.program scene.normal scene.board scene.seat scene.pair }
+    requires { IsReady scene.mode scene.program scene.normal scene.board scene.seat scene.pair }
 {
     let set = set_of(alloc, 4, 0b1010)?;
     if !scene.may_report(alloc, &set)? {
         return Ok(false);
     }
     let Scene {
+        mode,
         board,
         seat,
         pair,
         ..
     } = scene;
-    Ok(reads_at_once(rt, &board, seat, pair, &set))
+    let read = reads_at_once(rt, &board, seat, pair, &set);
+    Ok(has_what_is_shown(mode, &read))
 }
 
-fn is_shown<R: Threads>(rt: &R, alloc: Global) -> Result<bool, NoMemory> {
+fn is_shown<R: Threads>(rt: &R, alloc: Global, mode: Mode) -> Result<bool, NoMemory> {
     let Some(program) = program_of(alloc, ONE_OF_TWO) else {
         return Ok(false);
     };
-    match Scene::open(alloc, program) {
+    match Scene::open(alloc, program, mode) {
         None => Ok(false),
         Some(scene) => is_learnt(rt, alloc, scene),
     }
@@ -111,6 +126,7 @@ fn is_shown<R: Threads>(rt: &R, alloc: Global) -> Result<bool, NoMemory> {
 
 #[test]
 fn a_reader_learns_what_is_reported_meanwhile(rt: HostRuntime) -> Result<(), Fail> {
-    assert!(rt; is_shown(&rt, rt.alloc())?);
+    assert!(rt; is_shown(&rt, rt.alloc(), Mode::Cautious)?);
+    assert!(rt; is_shown(&rt, rt.alloc(), Mode::Brave)?);
     Ok(())
 }

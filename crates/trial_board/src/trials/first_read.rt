@@ -3,7 +3,7 @@ ghost use Rattle.trial_board.specs.Ready.{IsReady};
 
 use crate::trials::scene::{ONE_OF_TWO, Scene};
 use client_reads::Client;
-use ground_program::Pair;
+use ground_program::{Mode, Pair};
 use item_list::NoMemory;
 use std::alloc::Global;
 use std::test::Fail;
@@ -25,7 +25,8 @@ fn changes(mut client: Client, opened: &Pair) -> bool {
 /// Whether of two clients of one board, which has a report on candidate 3, the one that never reads
 /// ends with the pair of `Pair::open`, and the other has it until it reads.
 fn begin_open(alloc: Global, mut scene: Scene) -> Result<bool, NoMemory>
-    requires { IsReady scene.program scene.normal scene.board scene.seat scene.pair }
+    requires { IsReady scene.mode scene.program scene.normal scene.board scene.seat
+        scene.pair }
 {
     let reported = scene.report_in(alloc, 3)?;
     let Scene {
@@ -34,6 +35,7 @@ fn begin_open(alloc: Global, mut scene: Scene) -> Result<bool, NoMemory>
         board,
         mut seat,
         pair,
+        ..
     } = scene;
     let noted = board.note(&mut seat);
     let one = Client::open(alloc, &program, &normal, &board, seat)?;
@@ -45,7 +47,7 @@ fn is_shown(alloc: Global) -> Result<bool, NoMemory> {
     let Some(program) = program_of(alloc, ONE_OF_TWO) else {
         return Ok(false);
     };
-    match Scene::open(alloc, program) {
+    match Scene::open(alloc, program, Mode::Cautious) {
         None => Ok(false),
         Some(scene) => begin_open(alloc, scene),
     }

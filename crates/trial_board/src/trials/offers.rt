@@ -5,7 +5,7 @@ ghost use Rattle.trial_board.specs.Ready.{IsReady};
 use crate::trials::scene::{ONE_OF_TWO, Scene};
 use clause_store::Budget;
 use client_reads::{Client, Offered};
-use ground_program::{Broken, Program, Set};
+use ground_program::{Broken, Mode, Program, Set};
 use item_list::NoMemory;
 use std::alloc::Global;
 use std::test::Fail;
@@ -33,7 +33,8 @@ enum Answer {
 }
 
 /// Sets of a program's atoms, each by a bit for every atom from atom 1 on, that one client offers
-/// in turn. What the last is answered, and which candidates a read has in its upper bound then.
+/// in turn, and what the last is answered. Which candidates a read then has in its upper bound
+/// where the board is in cautious mode, and which in its lower one where it is in brave mode.
 struct Row {
     shows: &'static str,
     text: &'static [u8],
@@ -41,24 +42,27 @@ struct Row {
     limit: u32,
     answer: Answer,
     upper: &'static [bool],
+    lower: &'static [bool],
 }
 
 static ROWS: [Row; 9] = [
     Row {
-        shows: "an answer set is taken, and the candidate that it lacks is outside",
+        shows: "an answer set is taken: what it lacks is outside, or what it has is inside",
         text: ONE_OF_TWO,
         sets: &[0b1010],
         limit: 1,
         answer: Answer::Taken,
         upper: &[true, false, true],
+        lower: &[true, false, true],
     },
     Row {
-        shows: "two answer sets are taken, and what either lacks is outside",
+        shows: "two answer sets are taken: what either lacks is outside, or what either has is inside",
         text: ONE_OF_TWO,
         sets: &[0b1010, 0b1100],
         limit: 1,
         answer: Answer::Taken,
         upper: &[false, false, true],
+        lower: &[true, true, true],
     },
     Row {
         shows: "an answer set is taken again",
@@ -67,6 +71,7 @@ static ROWS: [Row; 9] = [
         limit: 1,
         answer: Answer::Taken,
         upper: &[true, false, true],
+        lower: &[true, false, true],
     },
     Row {
         shows: "a set in which the last but one rule fails is broken there",
@@ -75,6 +80,7 @@ static ROWS: [Row; 9] = [
         limit: 1,
         answer: Answer::Rule(2),
         upper: &[true, false, true],
+        lower: &[true, false, true],
     },
     Row {
         shows: "of two rules that fail the first is told",
@@ -83,6 +89,7 @@ static ROWS: [Row; 9] = [
         limit: 1,
         answer: Answer::Rule(0),
         upper: &[true, true, true],
+        lower: &[false, false, false],
     },
     Row {
         shows: "a set with an atom that must be absent is broken there",
@@ -91,6 +98,7 @@ static ROWS: [Row; 9] = [
         limit: 1,
         answer: Answer::Compute(1),
         upper: &[true, true, true],
+        lower: &[false, false, false],
     },
     Row {
         shows: "a model with a smaller one of its reduct is not taken",
@@ -99,6 +107,7 @@ static ROWS: [Row; 9] = [
         limit: 1,
         answer: Answer::Smaller,
         upper: &[true, false, true],
+        lower: &[true, false, true],
     },
     Row {
         shows: "a small budget is spent on an answer set, which is not taken",
@@ -107,6 +116,7 @@ static ROWS: [Row; 9] = [
         limit: 1,
         answer: Answer::Spent,
         upper: &[true, true],
+        lower: &[false, false],
     },
     Row {
         shows: "with an ample budget it is taken",
@@ -115,6 +125,7 @@ static ROWS: [Row; 9] = [
         limit: 100,
         answer: Answer::Taken,
         upper: &[true, false],
+        lower: &[true, false],
     },
 ];
 
@@ -176,19 +187,24 @@ fn last_answer(
     Ok(answer)
 }
 
-/// Whether a client reads nothing as inside, and just these candidates as not outside.
-fn reads(client: &mut Client, upper: &[bool]) -> bool {
+/// Whether a client reads what a row says.
+fn reads(client: &mut Client, mode: Mode, row: &Row) -> bool {
     client.read();
-    let pair = client.pair();
-    let none = pair.lower.as_slice().iter().all(|inside| !*inside);
-    none && pair.upper.as_slice() == upper
+    let lower = client.pair().lower.as_slice();
+    let upper = client.pair().upper.as_slice();
+    match mode {
+        Mode::Cautious => lower.iter().all(|inside| !*inside) && upper == row.upper,
+        Mode::Brave => lower == row.lower && upper.iter().all(|there| *there),
+    }
 }
 
 /// Whether the offers of a row are answered as it says.
 fn is_answered(alloc: Global, scene: Scene, row: &Row) -> Result<bool, NoMemory>
-    requires { IsReady scene.program scene.normal scene.board scene.seat scene.pair }
+    requires { IsReady scene.mode scene.program scene.normal scene.board scene.seat
+        scene.pair }
 {
     let Scene {
+        mode,
         program,
         normal,
         board,
@@ -197,14 +213,14 @@ fn is_answered(alloc: Global, scene: Scene, row: &Row) -> Result<bool, NoMemory>
     } = scene;
     let mut client = Client::open(alloc, &program, &normal, &board, seat)?;
     let answer = last_answer(alloc, &mut client, &program, row)?;
-    Ok(answer == row.answer && reads(&mut client, row.upper))
+    Ok(answer == row.answer && reads(&mut client, mode, row))
 }
 
-fn is_shown(alloc: Global, row: &Row) -> Result<bool, NoMemory> {
+fn is_shown(alloc: Global, row: &Row, mode: Mode) -> Result<bool, NoMemory> {
     let Some(program) = program_of(alloc, row.text) else {
         return Ok(false);
     };
-    match Scene::open(alloc, program) {
+    match Scene::open(alloc, program, mode) {
         None => Ok(false),
         Some(scene) => is_answered(alloc, scene, row),
     }
@@ -213,7 +229,12 @@ fn is_shown(alloc: Global, row: &Row) -> Result<bool, NoMemory> {
 #[test]
 fn answer_sets_are_taken_and_other_sets_are_not(rt: HostRuntime) -> Result<(), Fail> {
     for row in &ROWS {
-        assert!(rt; is_shown(rt.alloc(), row)?, "{}", row.shows);
+        assert!(rt; is_shown(rt.alloc(), row, Mode::Cautious)?, "{}", row.shows);
+        assert!(rt;
+            is_shown(rt.alloc(), row, Mode::Brave)?,
+            "{} (brave)",
+            row.shows
+        );
     }
     Ok(())
 }

@@ -20,9 +20,10 @@ use trial_inputs::set_of;
 pub const ONE_OF_TWO: &[u8] =
     b"1 2 1 1 3\n1 3 1 1 2\n1 4 1 0 2\n1 4 1 0 3\n0\n2 a\n3 b\n4 c\n0\nB+\n0\nB-\n1\n0\n1\n";
 
-/// A program, its normal form, a board of it in cautious mode, a seat and a pair.
+/// A mode, a program, its normal form, a board of it in that mode, a seat and a pair.
 #[derive(Drop)]
 pub struct Scene {
+    pub mode: Mode,
     pub program: Program,
     pub normal: Normal,
     pub board: Board,
@@ -39,17 +40,18 @@ pub fn is_candidate(normal: &Normal, cand: u32) -> bool
 
 impl Scene {
     /// The scene of a program. None is one with too many variables, or want of memory.
-    pub fn open(alloc: Global, program: Program) -> Option<Scene>
+    pub fn open(alloc: Global, program: Program, mode: Mode) -> Option<Scene>
         requires { IsProgram program }
         ensures { IfSome result
-            (λ it. IsReady it.program it.normal it.board it.seat it.pair) }
+            (λ it. IsReady it.mode it.program it.normal it.board it.seat it.pair) }
     {
         match normalise(alloc, &program) {
             Err(_) => None,
             Ok(normal) => {
-                let (board, seat) = Board::open(alloc, &normal, Mode::Cautious).ok()?;
+                let (board, seat) = Board::open(alloc, &normal, mode).ok()?;
                 let pair = Pair::open(alloc, board.candidates()).ok()?;
                 Some(Scene {
+                    mode,
                     program,
                     normal,
                     board,
@@ -62,20 +64,35 @@ impl Scene {
 
     /// Reads the board into the pair.
     pub fn read(&mut self)
-        requires { IsReady self.old.program self.old.normal self.old.board self.old.seat
-            self.old.pair }
-        ensures { IsReady self.new.program self.new.normal self.new.board self.new.seat
-            self.new.pair }
+        requires { IsReady self.old.mode self.old.program self.old.normal self.old.board
+            self.old.seat self.old.pair }
+        ensures { IsReady self.new.mode self.new.program self.new.normal self.new.board
+            self.new.seat self.new.pair }
     {
         self.board.read_into(&mut self.seat, &mut self.pair);
     }
 
-    /// Reports that a candidate is a consequence, where it is one. Whether it is.
+    /// Reports that a candidate is a consequence, in cautious mode alone. Whether that was done.
     pub fn report_in(&mut self, alloc: Global, cand: u32) -> Result<bool, NoMemory>
-        requires { IsReady self.old.program self.old.normal self.old.board self.old.seat
-            self.old.pair }
-        ensures ready { OnOk result (IsReady self.new.program self.new.normal self.new.board
-            self.new.seat self.new.pair) }
+        requires { IsReady self.old.mode self.old.program self.old.normal self.old.board
+            self.old.seat self.old.pair }
+        ensures ready { OnOk result (IsReady self.new.mode self.new.program self.new.normal
+            self.new.board self.new.seat self.new.pair) }
+        ensures board { self.new.board ≡ self.old.board }
+    {
+        match self.mode {
+            Mode::Brave => Ok(false),
+            Mode::Cautious => self.report_in_every(alloc, cand),
+        }
+    }
+
+    /// Reports in cautious mode that a candidate is in every answer set, where it is. Whether it is.
+    fn report_in_every(&mut self, alloc: Global, cand: u32) -> Result<bool, NoMemory>
+        requires ready { IsReady self.old.mode self.old.program self.old.normal self.old.board
+            self.old.seat self.old.pair }
+        requires cautious { self.old.mode ≡ Mode.Cautious }
+        ensures ready { OnOk result (IsReady self.new.mode self.new.program self.new.normal
+            self.new.board self.new.seat self.new.pair) }
         ensures board { self.new.board ≡ self.old.board }
     {
         if !is_candidate(&self.normal, cand) {
@@ -91,8 +108,8 @@ impl Scene {
 
     /// Whether a set is an answer set, so that what it shows may be reported.
     pub fn may_report(&self, alloc: Global, set: &Set) -> Result<bool, NoMemory>
-        requires { IsReady self.now.program self.now.normal self.now.board self.now.seat
-            self.now.pair }
+        requires { IsReady self.now.mode self.now.program self.now.normal self.now.board
+            self.now.seat self.now.pair }
         ensures { IfOk result
             (λ yes. IsTrue yes → IsAnswerSetN (normal_of self.now.board) set.now) }
     {
@@ -102,10 +119,10 @@ impl Scene {
 
     /// Reports what the set of these bits shows, where it is an answer set. Whether it is.
     pub fn report_set(&mut self, alloc: Global, bits: u32) -> Result<bool, NoMemory>
-        requires { IsReady self.old.program self.old.normal self.old.board self.old.seat
-            self.old.pair }
-        ensures ready { OnOk result (IsReady self.new.program self.new.normal self.new.board
-            self.new.seat self.new.pair) }
+        requires { IsReady self.old.mode self.old.program self.old.normal self.old.board
+            self.old.seat self.old.pair }
+        ensures ready { OnOk result (IsReady self.new.mode self.new.program self.new.normal
+            self.new.board self.new.seat self.new.pair) }
         ensures board { self.new.board ≡ self.old.board }
     {
         if self.program.atoms >= 32 {
@@ -121,8 +138,8 @@ impl Scene {
 
     /// What a second seat that was told all finds of a candidate.
     pub fn is_settled_for_another(&mut self, cand: u32) -> Settled
-        requires ready { IsReady self.old.program self.old.normal self.old.board self.old.seat
-            self.old.pair }
+        requires ready { IsReady self.old.mode self.old.program self.old.normal self.old.board
+            self.old.seat self.old.pair }
         requires cand { IsCandidate self.old.normal.names cand }
     {
         let mut noted = self.board.note(&mut self.seat);
