@@ -123,9 +123,11 @@ ordered_in_range words (Query settings) orders =
 same_mode : (one other : Mode) → mode_word one ≡ mode_word other → one ≡ other
 same_mode Cautious Cautious same = refl
 same_mode Cautious Brave same =
-    let bytes : 99 ≡ 98 = ap (λ (word : List ℕ). get_or word 0 0) same in absurd (omega (arith, bytes))
+    let bytes : 99 ≡ 98 = ap (λ (word : List ℕ). get_or word 0 0) same in
+    absurd (omega (arith, bytes))
 same_mode Brave Cautious same =
-    let bytes : 98 ≡ 99 = ap (λ (word : List ℕ). get_or word 0 0) same in absurd (omega (arith, bytes))
+    let bytes : 98 ≡ 99 = ap (λ (word : List ℕ). get_or word 0 0) same in
+    absurd (omega (arith, bytes))
 same_mode Brave Brave same = refl
 
 abbrev settings_of : Mode → ℕ → ℕ → Chosen → Settings

@@ -2,7 +2,6 @@ use Rattle.std.proofs.Common.{◌≡◌, true, false, Some, None, decimal, arith
 use Rattle.std.specs.Result.{result_ok}
 use Rattle.run_words.proofs.ChoiceLemmas.{none_answer, parsed_so}
 use Rattle.run_words.proofs.choice.read_number.Goals as goal
-use Rattle.run_words.proofs.choice.read_number.Goals.{else-number-ge1-via-then-number-ge1+else-number-most, else-number-ge1-via-else-number-ge1}
 
 pub returns-in_err-number : goal.returns-in_err-number
 returns-in_err-number c =
@@ -32,7 +31,8 @@ returns-else-number-ge1 c number is same =
     c.parse.ensures.value.0 in
     let own : c.in_ok-number.number ≡ number = cc in
     elim c.else-number-ge1.branch [
-      | else-number-ge1-via-then-number-ge1+else-number-most w ↦
+      | goal.else-number-ge1-via-then-number-ge1+else-number-most w ↦
           absurd (omega (arith, w.if-number-most.false, own, is.1))
-      | else-number-ge1-via-else-number-ge1 w ↦ absurd (omega (arith, w.if-number-ge1.false, own, is.0))
+      | goal.else-number-ge1-via-else-number-ge1 w ↦
+          absurd (omega (arith, w.if-number-ge1.false, own, is.0))
     ]
