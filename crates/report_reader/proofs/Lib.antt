@@ -1,0 +1,5 @@
+mod FieldLemmas
+mod SetLemmas
+mod WordLemmas
+mod LineLemmas
+mod TextLemmas
