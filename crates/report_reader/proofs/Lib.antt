@@ -2,4 +2,5 @@ mod FieldLemmas
 mod SetLemmas
 mod WordLemmas
 mod LineLemmas
+mod LoopLemmas
 mod TextLemmas

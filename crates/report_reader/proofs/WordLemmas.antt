@@ -1,10 +1,11 @@
 -- Words: each is known by its text.
 use Rattle.std.proofs.Common.{◌≡◌, ℕ, Bool, true, false, eqb, cond, not, ◌&&◌, ◌⊎◌, inl, inr, List}
-use Rattle.std.proofs.Common.{[], ◌∷◌, refl, ap, ◌∙◌}
+use Rattle.std.proofs.Common.{[], ◌∷◌, length, refl, ap, ◌∙◌}
 use Rattle.std.specs.Prelude.{Option, Some, None, find}
 use Rattle.std.specs.Str.{bytes_eq}
 use Rattle.std.proofs.lemmas.Option.{same_Some}
-use Rattle.std.proofs.lemmas.Slice.Eq.{bytes_eq-Decides}
+use Rattle.std.proofs.lemmas.Slice.Eq.{bytes_eq-Decides, text_from_reads}
+use Rattle.std.proofs.lemmas.Slice.Eq.{HasBytesAt}
 use Rattle.report.specs.declared.lines.Why.{Why}
 use Rattle.report.specs.declared.lines.Why.TheVariants as whys
 use Rattle.report.specs.Text.{text_of_why}
@@ -148,9 +149,13 @@ pub why_lacks_feed : (why : Why) → Lacks 10 (text_of_why why)
 why_lacks_feed why =
     lacks_told 10 (text_of_why why) (both_true (lacks 32 (text_of_why why)) (lacks 10 (text_of_why why)) (why_plain why)).1
 
--- a text that is a word is that word's
-pub word_is : (text : List ℕ) (word : Word) → text ≡ text_of_word word → word_at text ≡ Some word
-word_is text word same = ap word_at same ∙ word_again word
+-- a text with the length and the bytes of a word is that word's
+pub word_reads : (text : List ℕ) (word : Word) → length text ≡ length (text_of_word word)
+    → HasBytesAt text 0 (text_of_word word) → word_at text ≡ Some word
+word_reads text word size bytes =
+    ap word_at (text_from_reads text (text_of_word word) size bytes) ∙ word_again word
 
-pub why_is : (text : List ℕ) (why : Why) → text ≡ text_of_why why → why_at text ≡ Some why
-why_is text why same = ap why_at same ∙ why_again why
+pub why_reads : (text : List ℕ) (why : Why) → length text ≡ length (text_of_why why)
+    → HasBytesAt text 0 (text_of_why why) → why_at text ≡ Some why
+why_reads text why size bytes =
+    ap why_at (text_from_reads text (text_of_why why) size bytes) ∙ why_again why

@@ -60,23 +60,53 @@ pub fn word_of(text: &[u8]) -> Option<Word>
 pub fn why_of_text(text: &[u8]) -> Option<Why>
     ensures { IsReading (λ x. x) result (why_at text.now) }
 {
-    match text {
-        b"NotANumber" => Some(Why::NotANumber),
-        b"UnknownKind" => Some(Why::UnknownKind),
-        b"MinimizeRule" => Some(Why::MinimizeRule),
-        b"AtomZero" => Some(Why::AtomZero),
-        b"NumberTooLarge" => Some(Why::NumberTooLarge),
-        b"NegativeCount" => Some(Why::NegativeCount),
-        b"MissingMark" => Some(Why::MissingMark),
-        b"ExternalSection" => Some(Why::ExternalSection),
-        b"NameMissing" => Some(Why::NameMissing),
-        b"EndOfInput" => Some(Why::EndOfInput),
-        b"TrailingText" => Some(Why::TrailingText),
-        b"TooLong" => Some(Why::TooLong),
-        b"ReadFault" => Some(Why::ReadFault),
-        b"TooManyVariables" => Some(Why::TooManyVariables),
-        b"Words" => Some(Why::Words),
-        b"NotYet" => Some(Why::NotYet),
-        _ => None,
+    if text == b"NotANumber".as_slice() {
+        return Some(Why::NotANumber);
     }
+    if text == b"UnknownKind".as_slice() {
+        return Some(Why::UnknownKind);
+    }
+    if text == b"MinimizeRule".as_slice() {
+        return Some(Why::MinimizeRule);
+    }
+    if text == b"AtomZero".as_slice() {
+        return Some(Why::AtomZero);
+    }
+    if text == b"NumberTooLarge".as_slice() {
+        return Some(Why::NumberTooLarge);
+    }
+    if text == b"NegativeCount".as_slice() {
+        return Some(Why::NegativeCount);
+    }
+    if text == b"MissingMark".as_slice() {
+        return Some(Why::MissingMark);
+    }
+    if text == b"ExternalSection".as_slice() {
+        return Some(Why::ExternalSection);
+    }
+    if text == b"NameMissing".as_slice() {
+        return Some(Why::NameMissing);
+    }
+    if text == b"EndOfInput".as_slice() {
+        return Some(Why::EndOfInput);
+    }
+    if text == b"TrailingText".as_slice() {
+        return Some(Why::TrailingText);
+    }
+    if text == b"TooLong".as_slice() {
+        return Some(Why::TooLong);
+    }
+    if text == b"ReadFault".as_slice() {
+        return Some(Why::ReadFault);
+    }
+    if text == b"TooManyVariables".as_slice() {
+        return Some(Why::TooManyVariables);
+    }
+    if text == b"Words".as_slice() {
+        return Some(Why::Words);
+    }
+    if text == b"NotYet".as_slice() {
+        return Some(Why::NotYet);
+    }
+    None
 }
