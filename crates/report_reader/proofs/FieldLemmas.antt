@@ -2,13 +2,14 @@
 use Rattle.std.proofs.Common.{◌≡◌, ◌≢◌, ℕ, zero, suc, ◌+◌, ◌<◌, ◌≤◌, ◌^◌, Bool, true, false, eqb}
 use Rattle.std.proofs.Common.{ltb, cond, ◌&&◌, ◌⊎◌, inl, inr, List, [], ◌∷◌, ◌++◌, length, refl, sym}
 use Rattle.std.proofs.Common.{ap, subst, ◌∙◌, arith, decimal, append_assoc}
-use Rattle.std.specs.Prelude.{Option, Some, None, ⊤}
+use Rattle.std.specs.Prelude.{Option, Some, None, ⊤, Result, Ok, Err}
 use Rattle.std.specs.List.{AllByRecursion}
 use Rattle.std.specs.Char.{digit_value}
-use Rattle.std.specs.Str.{bytes_eq}
-use Rattle.std.specs.Str.Parse.{AllDigits, digits_value}
+use Rattle.std.specs.Str.{bytes_eq, IsUtf8}
+use Rattle.std.specs.Str.Parse.{AllDigits, ParsesUnsigned, digits_value}
 use Rattle.std.proofs.lemmas.Bool.{lt-ltb, ltb-true, ne_eqb, eqb-true}
-use Rattle.std.proofs.lemmas.Fmt.{decimal_is_IsNumeral}
+use Rattle.std.proofs.lemmas.Fmt.{decimal_is_IsNumeral, IsAscii-decimal, parse-decimal}
+use Rattle.std.proofs.lemmas.Str.{IsUtf8-from_ascii}
 use Rattle.std.proofs.lemmas.Option.{same_Some}
 use Rattle.std.proofs.lemmas.Slice.Eq.{bytes_eq-Decides}
 use Rattle.report.specs.Text.{field, fields}
@@ -188,6 +189,71 @@ number_of_takes text number e =
     (chosen
     (ltb (digits_value 10 text) (2 ^ 64) && bytes_eq (decimal (digits_value 10 text)) text)
     (Some (digits_value 10 text)) None (Some number) e)
+
+-- where no number has this text, none is read
+none_of_text : (text : List ℕ) (read : Option ℕ) → number_of text ≡ read
+    → ((number : ℕ) → IsText (2 ^ 64) number text → ⊥) → number_of text ≡ None
+none_of_text text None is none = is
+none_of_text text (Some number) is none = absurd (none number (number_of_takes text number is))
+
+pub none_by_utf8 : (text : List ℕ) → ¬ IsUtf8 text → number_of text ≡ None
+none_by_utf8 text none =
+    none_of_text text (number_of text) refl
+    (λ number stands. none
+    (subst IsUtf8 (sym stands.text_is)
+    (IsUtf8-from_ascii (decimal number) (IsAscii-decimal number stands.fits))))
+
+-- the number that parsing gives for the text of a number
+parsed_is : {E : Type 0} (text : List ℕ) (number : ℕ) (parsed : Result ℕ E)
+    → IsText (2 ^ 64) number text → ParsesUnsigned 64 10 text parsed → parsed ≡ Ok number
+parsed_is text number parsed stands parses =
+    parse-decimal 64 number text parsed stands.fits stands.fits stands.text_is parses
+
+pub none_by_parse : {E : Type 0} (text digits : List ℕ) (parsed : Result ℕ E) → digits ≡ text
+    → ParsesUnsigned 64 10 digits parsed → ((number : ℕ) → parsed ≡ Ok number → ⊥)
+    → number_of text ≡ None
+none_by_parse text digits parsed same parses none =
+    none_of_text text (number_of text) refl
+    (λ number stands. none number
+    (parsed_is digits number parsed
+    (record { text_is = same ∙ stands.text_is; fits = stands.fits }) parses))
+
+ok_is : {E : Type 0} (one two : ℕ) → ◌≡◌ {A = Result ℕ E} (Ok one) (Ok two) → one ≡ two
+ok_is one two e = cc
+
+no_ok : {E : Type 0} (e : E) (number : ℕ) → ◌≡◌ {A = Result ℕ E} (Err e) (Ok number) → ⊥
+no_ok e number same = cc
+
+parsed_fits : {E : Type 0} (digits : List ℕ) (number : ℕ) (parsed : Result ℕ E)
+    → ParsesUnsigned 64 10 digits parsed → parsed ≡ Ok number → number < 2 ^ 64
+parsed_fits {E} digits number (Ok found) parses same =
+    subst (λ (n : ℕ). n < 2 ^ 64) (sym parses.1 ∙ ok_is {E = E} found number same) parses.0.1
+parsed_fits {E} digits number (Err e) parses same = absurd (no_ok {E = E} e number same)
+
+pub number_same : {E : Type 0} (text digits shown : List ℕ) (number : ℕ) (parsed : Result ℕ E)
+    → ParsesUnsigned 64 10 digits parsed → parsed ≡ Ok number → shown ≡ decimal number
+    → bytes_eq shown text ≡ true → number_of text ≡ Some number
+number_same text digits shown number parsed parses is shown_is same =
+    ap number_of (sym ((bytes_eq-Decides shown text).0 same) ∙ shown_is)
+    ∙ number_of_again number (parsed_fits digits number parsed parses is)
+
+differs : (shown text : List ℕ) → bytes_eq shown text ≡ false → shown ≡ text → ⊥
+differs shown text other same =
+    let wrong = sym other ∙ (bytes_eq-Decides shown text).1 same in cc
+
+pub number_other : {E : Type 0} (text digits shown : List ℕ) (number : ℕ) (parsed : Result ℕ E)
+    → digits ≡ text → ParsesUnsigned 64 10 digits parsed → parsed ≡ Ok number
+    → shown ≡ decimal number → bytes_eq shown text ≡ false → number_of text ≡ None
+number_other {E} text digits shown number parsed same parses is shown_is other =
+    none_of_text text (number_of text) refl
+    (λ found stands. differs shown text other
+    (shown_is
+    ∙ ap decimal
+    (ok_is {E = E} number found
+    (sym is
+    ∙ parsed_is digits found parsed
+    (record { text_is = same ∙ stands.text_is; fits = stands.fits }) parses))
+    ∙ sym stands.text_is))
 
 -- a number below the limit was read, and the rest
 pub record Took (limit : ℕ) (bytes : List ℕ) (number : ℕ) (rest : List ℕ) : Type 0 where

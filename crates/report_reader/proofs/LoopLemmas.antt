@@ -114,9 +114,10 @@ numbers_end front (byte ∷ rest) none = absurd (omega (arith, none))
 -- ---- sets
 
 pub set_begins : (atoms : ℕ) (numbers : List ℕ)
-    → with_front (false ∷ []) (values_at atoms 1 numbers) ≡ set_at atoms numbers
+    → with_front (false ∷ []) (values_at (atoms - 0) 1 numbers) ≡ set_at atoms numbers
 unfolding set_at
-set_begins atoms numbers = begun (values_at atoms 1 numbers)
+set_begins atoms numbers =
+    let all : atoms - 0 ≡ atoms = omega arith in rw all (begun (values_at atoms 1 numbers))
   where
     begun : (values : Option (List Bool))
         → with_front (false ∷ []) values ≡ (values >>= (λ found. Some (false ∷ found)))
@@ -131,7 +132,7 @@ unfolding values_at
 set_step front count at left =
     front_next front (begins_with at left) (values_at count (at + 1) (without_first at left))
 
-set_next : (front : List Bool) (atoms place : ℕ) (left : List ℕ) → place < atoms
+pub set_next : (front : List Bool) (atoms place : ℕ) (left : List ℕ) → place < atoms
     → with_front front (values_at (atoms - place) (place + 1) left)
     ≡ with_front (front ++ begins_with (place + 1) left ∷ [])
     (values_at (atoms - (place + 1)) (place + 1 + 1) (without_first (place + 1) left))
@@ -139,26 +140,6 @@ set_next front atoms place left inside =
     let more : atoms - place ≡ suc (atoms - (place + 1)) = omega (arith, inside) in
     ap (λ (n : ℕ). with_front front (values_at n (place + 1) left)) more
     ∙ set_step front (atoms - (place + 1)) (place + 1) left
-
--- the next number is the atom
-pub set_has : (front : List Bool) (atoms place first : ℕ) (others : List ℕ) → place < atoms
-    → first ≡ place + 1
-    → with_front front (values_at (atoms - place) (place + 1) (first ∷ others))
-    ≡ with_front (front ++ true ∷ []) (values_at (atoms - (place + 1)) (place + 1 + 1) others)
-set_has front atoms place first others inside is =
-    let same : eqb first (place + 1) ≡ true = eq-eqb first (place + 1) is in
-    set_next front atoms place (first ∷ others) inside ∙ rw same refl
-
--- no number is left, or the next is another
-pub set_lacks : (front : List Bool) (atoms place : ℕ) (left : List ℕ) → place < atoms
-    → ((others : List ℕ) → left ≢ (place + 1) ∷ others)
-    → with_front front (values_at (atoms - place) (place + 1) left)
-    ≡ with_front (front ++ false ∷ []) (values_at (atoms - (place + 1)) (place + 1 + 1) left)
-set_lacks front atoms place [] inside other = set_next front atoms place [] inside
-set_lacks front atoms place (first ∷ rest) inside other =
-    let differs : eqb first (place + 1) ≡ false =
-    ne_eqb first (place + 1) (λ same. other rest (ap (λ (n : ℕ). n ∷ rest) same)) in
-    set_next front atoms place (first ∷ rest) inside ∙ rw differs refl
 
 pub set_done : (front : List Bool) (atoms place at : ℕ) (left : List ℕ) → atoms ≤ place
     → length left ≡ 0 → with_front front (values_at (atoms - place) at left) ≡ Some front

@@ -1,7 +1,7 @@
 -- Texts: each is the text of one list of lines at most, or has one first line that is none.
 use Rattle.std.proofs.Common.{◌≡◌, ◌≢◌, ℕ, zero, suc, ◌+◌, ◌<◌, ◌≤◌, ◌^◌, eqb, List, [], ◌∷◌, ◌++◌, length}
 use Rattle.std.proofs.Common.{refl, sym, ap, subst, ◌∙◌, arith, decimal, append_assoc, append-nil}
-use Rattle.std.specs.Prelude.{Option, Some, None, slice_get, codes, ◌-◌, All, Result, Ok, Err}
+use Rattle.std.specs.Prelude.{Option, Some, None, slice_get, codes, ◌-◌, All, Result, Ok, Err, IfOk, IfErr}
 use Rattle.std.specs.List.{AllByRecursion}
 use Rattle.std.specs.Option.{option_map_or}
 use Rattle.std.proofs.lemmas.Bool.{ne_eqb, eqb-true}
@@ -263,3 +263,33 @@ one_wrong atoms names (line ∷ before) (other ∷ others) rest more few one_lin
     one_wrong atoms names before others rest more few one_line each.1 also.1 wrong also_wrong
     (ap (λ (p : Line × List ℕ). p.1) first) in
     omega (arith, less)
+
+-- ---- what was read is all that can be
+
+module _ {A : Type 0} (view : A → List Line) (atoms : ℕ) (names : List Named) (text : List ℕ)
+    (few : IsSmall atoms) (one_line : AreOneLine names) where
+  pub all_read : (result : Result A ReportError)
+      → IfOk result (λ found. IsTextOf atoms names text (view found))
+      → IfErr result (IsWhy atoms names text) → (lines : List Line)
+      → IsTextOf atoms names text lines → AreLinesUnlessNoMemory view result lines
+  all_read (Ok found) read why lines is =
+      text_tells atoms names (view found) lines few one_line read.each is.each
+      (sym read.same ∙ is.same)
+  all_read (Err (NotALine told)) read why lines is =
+      no_wrong atoms names why.before lines why.rest few one_line why.each is.each why.some
+      why.wrong (sym why.parts ∙ is.same)
+  all_read (Err errors.NoMemory) read why lines is = tt
+
+  pub all_refused : (result : Result A ReportError)
+      → IfOk result (λ found. IsTextOf atoms names text (view found))
+      → IfErr result (IsWhy atoms names text) → (number : ℕ)
+      → IsFirstWrong atoms names text number → IsNumberUnlessNoMemory result number
+  all_refused (Ok found) read why number wrong =
+      no_wrong atoms names wrong.before (view found) wrong.rest few one_line wrong.each read.each
+      wrong.some wrong.wrong (sym wrong.parts ∙ read.same)
+  all_refused (Err (NotALine told)) read why number wrong =
+      let same =
+      one_wrong atoms names why.before wrong.before why.rest wrong.rest few one_line why.each
+      wrong.each why.wrong wrong.wrong (sym why.parts ∙ wrong.parts) in
+      sym why.count ∙ ap (λ (n : ℕ). n + 1) same ∙ wrong.count
+  all_refused (Err errors.NoMemory) read why number wrong = tt

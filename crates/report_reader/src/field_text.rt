@@ -32,10 +32,15 @@ pub fn read_field(bytes: &[u8]) -> Option<(&[u8], &[u8])>
 fn number_of_text(text: &[u8]) -> Option<u64>
     ensures { IsReading (λ x. x) result (number_of text.now) }
 {
-    let number = std::str::from_utf8(text).ok()?.parse().ok()?;
+    let Ok(digits) = std::str::from_utf8(text) else {
+        return None;
+    };
+    let Ok(number) = digits.parse::<u64>() else {
+        return None;
+    };
     // The text of the number is compared, since parsing takes a plus and leading zeros too.
-    let mut digits = Buffer::new();
-    if digits.format(number).as_bytes() == text {
+    let mut buffer = Buffer::new();
+    if buffer.format(number).as_bytes() == text {
         Some(number)
     } else {
         None

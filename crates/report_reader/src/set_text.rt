@@ -1,6 +1,7 @@
 // The line of an answer set.
-ghost use Rattle.std.specs.Prelude.{◌≡◌, ◌<◌, ◌^◌, length, IfOk};
+ghost use Rattle.std.specs.Prelude.{◌≡◌, length, IfOk};
 ghost use Rattle.report_reader.specs.Reading.{IsReading, numbers_at, set_at, answer_at};
+ghost use Rattle.report_reader.specs.Reading.{begins_with, without_first};
 
 use crate::field_text::read_small;
 use ground_program::Set;
@@ -49,16 +50,23 @@ fn set_of(alloc: Global, numbers: &[u32], atoms: u32) -> Result<Option<Set>, All
     set.push(alloc, false)?;
     let mut left = numbers;
     for before in 0..atoms {
-        match left {
-            [first, others @ ..] if *first == before + 1 => {
-                set.push(alloc, true)?;
-                left = others;
-            }
-            _ => set.push(alloc, false)?,
-        }
+        let (holds, others) = split_first(before + 1, left);
+        set.push(alloc, holds)?;
+        left = others;
     }
     match left {
         [] => Ok(Some(set)),
         _ => Ok(None),
+    }
+}
+
+/// Whether the first of the numbers is this atom, and the numbers without it.
+fn split_first(atom: u32, numbers: &[u32]) -> (bool, &[u32])
+    ensures first { result.0 ≡ begins_with atom numbers.now }
+    ensures others { result.1.now ≡ without_first atom numbers.now }
+{
+    match numbers {
+        [first, others @ ..] if *first == atom => (true, others),
+        _ => (false, numbers),
     }
 }
