@@ -41,7 +41,7 @@ enum Outcome {
     NotALine(u32),
 }
 
-fn outcome(alloc: Global, names: &Names, text: &[u8]) -> Result<Outcome, AllocError>
+fn outcome_of(alloc: Global, names: &Names, text: &[u8]) -> Result<Outcome, AllocError>
     requires short { length text.now < 2 ^ 32 }
     requires one_line { AreOneLine names.now }
 {
@@ -119,7 +119,7 @@ fn reports_are_read(rt: HostRuntime) -> Result<(), Fail> {
     for (text, lines) in &READ {
         let text = text.as_bytes();
         assert!(rt; text.len() < 1000);
-        assert_eq!(rt; outcome(alloc, &names, text)?, Outcome::Lines(*lines));
+        assert_eq!(rt; outcome_of(alloc, &names, text)?, Outcome::Lines(*lines));
     }
     Ok(())
 }
@@ -131,7 +131,7 @@ fn the_first_line_that_is_none_is_told(rt: HostRuntime) -> Result<(), Fail> {
     for (text, line) in &REFUSED {
         let text = text.as_bytes();
         assert!(rt; text.len() < 1000);
-        assert_eq!(rt; outcome(alloc, &names, text)?, Outcome::NotALine(*line));
+        assert_eq!(rt; outcome_of(alloc, &names, text)?, Outcome::NotALine(*line));
     }
     Ok(())
 }

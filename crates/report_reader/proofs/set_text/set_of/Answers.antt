@@ -13,8 +13,19 @@ returns-in-empty c =
     ∙ set_done c.loop-before.set c.args.atoms c.loop-before.before (c.loop-before.before + 1)
     c.loop-before.left.now c.loop-before-test.false (omega (arith, c.in-empty.len_below))
 
-pub returns-in_default-left : goal.returns-in_default-left
-returns-in_default-left c =
+pub loop-before-preserved : goal.loop-before-preserved
+loop-before-preserved c =
+    rw (
+      c.in_ok-push-2.ensures.ok,
+      c.split_first-holds.ensures.first,
+      c.split_first-holds.ensures.others,
+    )
+    (sym (set_next c.loop-before.set c.args.atoms c.loop-before.before c.loop-before.left.now
+    c.loop-before-test.true)
+    ∙ c.loop-before.invariant)
+
+pub returns-in_default : goal.returns-in_default
+returns-in_default c =
     sym c.loop-before.invariant
     ∙ set_over c.loop-before.set c.args.atoms c.loop-before.before (c.loop-before.before + 1)
-    c.loop-before.left.now c.loop-before-test.false c.in_default-left.len_at_least
+    c.loop-before.left.now c.loop-before-test.false c.in_default.len_at_least
