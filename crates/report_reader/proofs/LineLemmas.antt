@@ -1,5 +1,5 @@
 -- Lines: the words of a line read as the line, and what was read has these words.
-use Rattle.std.proofs.Common.{◌≡◌, ℕ, zero, suc, ◌+◌, ◌<◌, ◌≤◌, ◌^◌, Bool, true, false, eqb, leb, cond}
+use Rattle.std.proofs.Common.{◌≡◌, ℕ, ◌+◌, ◌<◌, ◌≤◌, ◌^◌, Bool, true, false, leb, cond}
 use Rattle.std.proofs.Common.{◌&&◌, ◌⊎◌, inl, inr, List, [], ◌∷◌, ◌++◌, length, refl, sym, ap, subst}
 use Rattle.std.proofs.Common.{◌∙◌, arith, decimal, append_assoc, codes, append-nil}
 use Rattle.std.specs.Prelude.{Option, Some, None, ⊤}
@@ -8,7 +8,6 @@ use Rattle.std.proofs.lemmas.Bool.{le-leb, leb-true}
 use Rattle.std.proofs.lemmas.Option.{same_Some}
 use Rattle.std.proofs.lemmas.Slice.Eq.{bytes_eq-Decides}
 use Rattle.ground_program.specs.declared.program.Named.{Named}
-use Rattle.ground_program.specs.Bounds.{IsCandidate}
 use Rattle.report.specs.declared.lines.Why.{Why}
 use Rattle.report.specs.declared.lines.Line.{Line}
 use Rattle.report.specs.declared.lines.Line.TheVariants as lines
@@ -25,8 +24,8 @@ use Rattle.report_reader.proofs.FieldLemmas.{bind_is, chosen, no_some, both_true
 use Rattle.report_reader.proofs.FieldLemmas.{before_then, onward_then, split_parts, field_again}
 use Rattle.report_reader.proofs.FieldLemmas.{field_takes, number_again, number_takes, Took}
 use Rattle.report_reader.proofs.FieldLemmas.{small_again, small_takes, fields_begin, AreSmall}
-use Rattle.report_reader.proofs.FieldLemmas.{numbers_again, numbers_take, TookAll}
-use Rattle.report_reader.proofs.SetLemmas.{positions_small, set_again, set_takes, IsSetOf}
+use Rattle.report_reader.proofs.FieldLemmas.{numbers_again, numbers_take}
+use Rattle.report_reader.proofs.SetLemmas.{positions_small, set_again, set_takes}
 use Rattle.report_reader.proofs.WordLemmas.{word_again, word_takes, why_again, why_takes}
 use Rattle.report_reader.proofs.WordLemmas.{word_lacks_blank, why_lacks_blank}
 

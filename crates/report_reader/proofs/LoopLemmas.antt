@@ -1,5 +1,5 @@
 -- What the loops carry.
-use Rattle.std.proofs.Common.{◌≡◌, ◌≢◌, ℕ, zero, suc, ◌+◌, ◌-◌, ◌<◌, ◌≤◌, ◌^◌, Bool, true, false, eqb}
+use Rattle.std.proofs.Common.{◌≡◌, ◌≢◌, ℕ, suc, ◌+◌, ◌-◌, ◌<◌, ◌≤◌, Bool, false}
 use Rattle.std.proofs.Common.{List, [], ◌∷◌, ◌++◌, length, take, drop, get_or, refl, sym, ap, subst}
 use Rattle.std.proofs.Common.{◌∙◌, arith, append_assoc, append-nil, take-append-drop}
 use Rattle.std.specs.Prelude.{Option, Some, None}
@@ -15,7 +15,7 @@ use Rattle.report_reader.specs.Reading.{◌>>=◌, before, onward, small_at, num
 use Rattle.report_reader.specs.Reading.{without_first, values_at, set_at, first_at}
 use Rattle.report_reader.proofs.FieldLemmas.{no_some, Lacks, Begins, before_then, onward_then}
 use Rattle.report_reader.proofs.FieldLemmas.{lacks_append, small_takes, took_shorter, most_same}
-use Rattle.report_reader.proofs.TextLemmas.{first_again, first_takes, TookFirst}
+use Rattle.report_reader.proofs.TextLemmas.{first_again, first_takes}
 
 -- ---- cutting at a byte
 

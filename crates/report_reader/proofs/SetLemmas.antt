@@ -1,12 +1,11 @@
 -- Sets: the positions of a set make the set again, and what was made has these positions.
-use Rattle.std.proofs.Common.{◌≡◌, ◌≢◌, ℕ, zero, suc, ◌+◌, ◌<◌, ◌≤◌, ◌^◌, Bool, true, false, eqb}
+use Rattle.std.proofs.Common.{◌≡◌, ℕ, zero, suc, ◌+◌, ◌<◌, ◌≤◌, ◌^◌, Bool, true, false, eqb}
 use Rattle.std.proofs.Common.{cond, List, [], ◌∷◌, length, refl, sym, ap, subst, ◌∙◌, arith}
-use Rattle.std.specs.Prelude.{Option, Some, None, slice_get}
-use Rattle.std.specs.List.{AllByRecursion}
+use Rattle.std.specs.Prelude.{Option, Some}
 use Rattle.std.proofs.lemmas.Bool.{ne_eqb, eqb-true, eq-eqb}
 use Rattle.std.proofs.lemmas.Option.{same_Some}
 use Rattle.report.specs.Text.{positions_from}
-use Rattle.report_reader.specs.Lines.{IsSmall, IsSetOver}
+use Rattle.report_reader.specs.Lines.{IsSetOver}
 use Rattle.report_reader.specs.Reading.{◌>>=◌, begins_with, without_first, values_at, set_at}
 use Rattle.report_reader.proofs.FieldLemmas.{bind_is, no_some, AreSmall}
 

@@ -1,6 +1,6 @@
 -- Texts: each is the text of one list of lines at most, or has one first line that is none.
-use Rattle.std.proofs.Common.{◌≡◌, ◌≢◌, ℕ, zero, suc, ◌+◌, ◌<◌, ◌≤◌, ◌^◌, eqb, List, [], ◌∷◌, ◌++◌, length}
-use Rattle.std.proofs.Common.{refl, sym, ap, subst, ◌∙◌, arith, decimal, append_assoc, append-nil}
+use Rattle.std.proofs.Common.{◌≡◌, ◌≢◌, ℕ, zero, suc, ◌+◌, ◌<◌, ◌^◌, List, [], ◌∷◌, ◌++◌, length}
+use Rattle.std.proofs.Common.{refl, sym, ap, subst, ◌∙◌, arith, decimal, append_assoc}
 use Rattle.std.specs.Prelude.{Option, Some, None, slice_get, codes, ◌-◌, All, Result, Ok, Err, IfOk, IfErr}
 use Rattle.std.specs.List.{AllByRecursion}
 use Rattle.std.specs.Option.{option_map_or}
@@ -16,17 +16,17 @@ use Rattle.report_reader.specs.declared.report_error.ReportError.{ReportError}
 use Rattle.report_reader.specs.declared.report_error.ReportError.TheVariants.{NotALine}
 use Rattle.report_reader.specs.declared.report_error.ReportError.TheVariants as errors
 use Rattle.report_reader.specs.declared.word_text.Word.TheVariants as words
-use Rattle.report_reader.specs.Lines.{IsSmall, IsSetOver, IsLine, AreOneLine, IsTextOf}
+use Rattle.report_reader.specs.Lines.{IsSmall, IsLine, AreOneLine, IsTextOf}
 use Rattle.report_reader.specs.Lines.{IsFirstWrong, IsWhy, AreLinesUnlessNoMemory}
 use Rattle.report_reader.specs.Lines.{IsNumberUnlessNoMemory}
-use Rattle.report_reader.specs.Reading.{◌>>=◌, before, onward, text_of_word, line_at, line_before}
+use Rattle.report_reader.specs.Reading.{◌>>=◌, before, onward, line_at, line_before}
 use Rattle.report_reader.specs.Reading.{first_at}
 use Rattle.report_reader.proofs.FieldLemmas.{bind_is, no_some, Lacks, Begins, before_then}
 use Rattle.report_reader.proofs.FieldLemmas.{onward_then, onward_begins, split_parts, lacks_append}
 use Rattle.report_reader.proofs.FieldLemmas.{decimal_lacks, no_digit_feed, AreSmall}
 use Rattle.report_reader.proofs.SetLemmas.{positions_small}
 use Rattle.report_reader.proofs.WordLemmas.{word_lacks_feed, why_lacks_feed}
-use Rattle.report_reader.proofs.LineLemmas.{line_again, line_takes, TookLine}
+use Rattle.report_reader.proofs.LineLemmas.{line_again, line_takes}
 
 -- ---- the words of a line have no line feed
 
@@ -45,9 +45,10 @@ fields_lack (number ∷ numbers) small =
 
 bytes_lack : (bytes : List ℕ) → All (λ byte. byte ≢ 10) bytes → Lacks 10 bytes
 bytes_lack [] all = tt
-bytes_lack (byte ∷ bytes) all =
-    (ne_eqb byte 10 (All-head (λ (b : ℕ). b ≢ 10) byte bytes all),
-    bytes_lack bytes (All-tail (λ (b : ℕ). b ≢ 10) byte bytes all))
+bytes_lack (byte ∷ bytes) all = (
+  ne_eqb byte 10 (All-head (λ (b : ℕ). b ≢ 10) byte bytes all),
+  bytes_lack bytes (All-tail (λ (b : ℕ). b ≢ 10) byte bytes all),
+)
 
 -- no byte of the entry's name is a line feed
 abbrev IsOneLine : Named → Type 0

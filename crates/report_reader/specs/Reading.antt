@@ -1,6 +1,6 @@
 -- Reading the words of one line from left to right: each field's value and the bytes behind it.
-use Rattle.std.specs.Prelude.{◌≡◌, ◌==◌, ◌+◌, ◌^◌, ◌&&◌, ℕ, zero, suc, Bool, true, false, List, []}
-use Rattle.std.specs.Prelude.{◌∷◌, ◌++◌, if◌then◌else◌, length, nat_lt, nat_le, Option, Some, None}
+use Rattle.std.specs.Prelude.{◌≡◌, ◌==◌, ◌+◌, ◌^◌, ◌&&◌, ℕ, zero, suc, Bool, false, List, []}
+use Rattle.std.specs.Prelude.{◌∷◌, if◌then◌else◌, length, nat_lt, nat_le, Option, Some, None}
 use Rattle.std.specs.Prelude.{⊤, codes, decimal, find}
 use Rattle.std.specs.Str.{bytes_eq}
 use Rattle.std.specs.Str.Parse.{digits_value}

@@ -1,4 +1,4 @@
-use Rattle.std.proofs.Common.{rules, ◌≡◌, ◌≤◌, length, sym, ◌∙◌, arith}
+use Rattle.std.proofs.Common.{rules, ◌≡◌, ◌≤◌, length, sym, ◌∙◌}
 use Rattle.report_reader.proofs.FieldLemmas.{took_shorter, small_takes}
 use Rattle.report_reader.proofs.LoopLemmas.{numbers_step, numbers_stop, numbers_end}
 use Rattle.report_reader.proofs.set_text.read_numbers.Goals as goal
