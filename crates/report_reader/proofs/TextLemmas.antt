@@ -1,7 +1,8 @@
 -- Texts: each is the text of one list of lines at most, or has one first line that is none.
 use Rattle.std.proofs.Common.{◌≡◌, ◌≢◌, ℕ, zero, suc, ◌+◌, ◌<◌, ◌^◌, List, [], ◌∷◌, ◌++◌, length}
 use Rattle.std.proofs.Common.{refl, sym, ap, subst, ◌∙◌, arith, decimal, append_assoc}
-use Rattle.std.specs.Prelude.{Option, Some, None, slice_get, codes, ◌-◌, All, Result, Ok, Err, IfOk, IfErr}
+use Rattle.std.specs.Prelude.{Option, Some, None, slice_get, codes, ◌-◌, All, Result, Ok, Err}
+use Rattle.std.specs.Prelude.{IfOk, IfErr}
 use Rattle.std.specs.List.{AllByRecursion}
 use Rattle.std.specs.Option.{option_map_or}
 use Rattle.std.proofs.lemmas.Bool.{ne_eqb, eqb-true}
@@ -253,8 +254,8 @@ one_wrong atoms names (line ∷ before) [] rest more few one_line each also wron
     absurd
     (also_wrong line (text_of_lines names before ++ rest) each.0
     (sym same ∙ append_assoc (text_of_line names line) (text_of_lines names before) rest))
-one_wrong atoms names (line ∷ before) (other ∷ others) rest more few one_line each also wrong also_wrong
-    same =
+one_wrong atoms names (line ∷ before) (other ∷ others) rest more few one_line each also wrong
+    also_wrong same =
     let first =
     same_first atoms names line other (text_of_lines names before ++ rest)
     (text_of_lines names others ++ more) few one_line each.0 also.0

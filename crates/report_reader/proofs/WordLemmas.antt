@@ -135,19 +135,23 @@ why_plain whys.NotYet = refl
 -- a word has no blank and no line feed
 pub word_lacks_blank : (word : Word) → Lacks 32 (text_of_word word)
 word_lacks_blank word =
-    lacks_told 32 (text_of_word word) (both_true (lacks 32 (text_of_word word)) (lacks 10 (text_of_word word)) (word_plain word)).0
+    lacks_told 32 (text_of_word word)
+    (both_true (lacks 32 (text_of_word word)) (lacks 10 (text_of_word word)) (word_plain word)).0
 
 pub word_lacks_feed : (word : Word) → Lacks 10 (text_of_word word)
 word_lacks_feed word =
-    lacks_told 10 (text_of_word word) (both_true (lacks 32 (text_of_word word)) (lacks 10 (text_of_word word)) (word_plain word)).1
+    lacks_told 10 (text_of_word word)
+    (both_true (lacks 32 (text_of_word word)) (lacks 10 (text_of_word word)) (word_plain word)).1
 
 pub why_lacks_blank : (why : Why) → Lacks 32 (text_of_why why)
 why_lacks_blank why =
-    lacks_told 32 (text_of_why why) (both_true (lacks 32 (text_of_why why)) (lacks 10 (text_of_why why)) (why_plain why)).0
+    lacks_told 32 (text_of_why why)
+    (both_true (lacks 32 (text_of_why why)) (lacks 10 (text_of_why why)) (why_plain why)).0
 
 pub why_lacks_feed : (why : Why) → Lacks 10 (text_of_why why)
 why_lacks_feed why =
-    lacks_told 10 (text_of_why why) (both_true (lacks 32 (text_of_why why)) (lacks 10 (text_of_why why)) (why_plain why)).1
+    lacks_told 10 (text_of_why why)
+    (both_true (lacks 32 (text_of_why why)) (lacks 10 (text_of_why why)) (why_plain why)).1
 
 -- a text with the length and the bytes of a word is that word's
 pub word_reads : (text : List ℕ) (word : Word) → length text ≡ length (text_of_word word)
