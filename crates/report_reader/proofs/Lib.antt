@@ -1,0 +1,6 @@
+mod FieldLemmas
+mod SetLemmas
+mod WordLemmas
+mod LineLemmas
+mod LoopLemmas
+mod TextLemmas
