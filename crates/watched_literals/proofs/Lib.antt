@@ -1,0 +1,6 @@
+pub mod ChainLemmas
+pub mod WalkLemmas
+pub mod MoveLemmas
+pub mod LinkLemmas
+pub mod StackLemmas
+pub mod StandingLemmas

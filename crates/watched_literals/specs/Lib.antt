@@ -1,0 +1,4 @@
+pub mod Chains
+pub mod Pends
+pub mod Standings
+pub mod Visits
