@@ -12,7 +12,9 @@ use Rattle.clause_store.specs.declared.literal.Lit.{Lit}
 use Rattle.watched_literals.specs.declared.chains.Node.{Node}
 use Rattle.watched_literals.specs.Chains.{none, node_of, code_of, next_of, Avoids, IsAmong}
 use Rattle.watched_literals.specs.Chains.{IsChain, HasAllOf, AreLinked, IsWalk, first_of_list}
-use Rattle.watched_literals.specs.Chains.{nodes_left}
+use Rattle.watched_literals.specs.Chains.{nodes_left, lit_of}
+use Rattle.watched_literals.specs.declared.chains.Chains.{Chains}
+use Rattle.watched_literals.specs.Rooms.{AreNodesPut}
 use Rattle.watched_literals.proofs.ChainLemmas.{chain_more, chain_avoids_new, chain_first}
 use Rattle.watched_literals.proofs.ChainLemmas.{chain_rest, blank}
 use Rattle.watched_literals.proofs.WalkLemmas.{later, rest_is, chain_here, next_is}
@@ -199,3 +201,72 @@ left_falls Has Gets nodes nodes1 heads heads1 code last last1 at walk some goes 
         (chain_rest nodes code (get_or heads code none) walk.kept walk.rest walk.list.chain) in
         left_of_chain (length nodes) nodes code at walk.rest chain
         (chain_short nodes code at walk.rest chain) walk.linked.few
+
+-- ---- two nodes more
+
+-- the nodes and the heads with one node more
+pub record IsOneMore (lit : Lit) (old new : Chains) : Type 0 where
+  pub nodes :
+      new.nodes.items
+      ≡ old.nodes.items ++ record { lit = lit; next = get_or old.heads.items lit.0 none } ∷ []
+  pub heads : new.heads.items ≡ set old.heads.items lit.0 (length old.nodes.items)
+
+one_more_linked : (lit : Lit) (old new : Chains) → IsOneMore lit old new
+    → length old.nodes.items < none → lit.0 < length old.heads.items
+    → AreLinked old.nodes.items old.heads.items → AreLinked new.nodes.items new.heads.items
+one_more_linked lit old new is room within linked =
+    subst (λ nodes. AreLinked nodes new.heads.items) (sym is.nodes)
+    (subst (AreLinked
+    (old.nodes.items ++ record { lit = lit; next = get_or old.heads.items lit.0 none } ∷ []))
+    (sym is.heads) (linked_with old.nodes.items old.heads.items lit linked room within))
+
+one_more_before : (lit : Lit) (old new : Chains) → IsOneMore lit old new → (n : ℕ)
+    → n < length old.nodes.items → lit_of new.nodes.items n ≡ lit_of old.nodes.items n
+one_more_before lit old new is n within =
+    ap (λ nodes. lit_of nodes n) is.nodes
+    ∙ ap (λ (it : Node). it.lit)
+    (get_or_append_left old.nodes.items
+    (record { lit = lit; next = get_or old.heads.items lit.0 none } ∷ []) blank n within)
+
+one_more_here : (lit : Lit) (old new : Chains) → IsOneMore lit old new
+    → lit_of new.nodes.items (length old.nodes.items) ≡ lit
+one_more_here lit old new is =
+    ap (λ nodes. lit_of nodes (length old.nodes.items)) is.nodes
+    ∙ ap (λ (it : Node). it.lit)
+    (get_or_push old.nodes.items
+    (record { lit = lit; next = get_or old.heads.items lit.0 none }) blank
+    (length old.nodes.items) refl)
+
+one_more_count : (lit : Lit) (old new : Chains) → IsOneMore lit old new
+    → length new.nodes.items ≡ length old.nodes.items + 1
+one_more_count lit old new is =
+    ap length is.nodes
+    ∙ length-append old.nodes.items
+    (record { lit = lit; next = get_or old.heads.items lit.0 none } ∷ [])
+
+pub two_more : (one two : Lit) (old half new : Chains) → IsOneMore one old half
+    → IsOneMore two half new → length old.nodes.items + 2 ≤ none
+    → one.0 < length old.heads.items → two.0 < length old.heads.items
+    → AreNodesPut one two old new
+two_more one two old half new first second room one_within two_within =
+    let one_count = one_more_count one old half first in
+    let heads_half : length half.heads.items ≡ length old.heads.items =
+    ap length first.heads ∙ length-set old.heads.items one.0 (length old.nodes.items) in
+    record {
+      linked =
+          λ linked. one_more_linked two half new second (omega (arith, one_count, room))
+          (omega (arith, two_within, heads_half))
+          (one_more_linked one old half first (omega (arith, room)) one_within linked);
+      heads =
+          ap length second.heads
+          ∙ length-set half.heads.items two.0 (length half.nodes.items) ∙ heads_half;
+      nodes = omega (arith, one_count, one_more_count two half new second);
+      before =
+          λ n within. one_more_before two half new second n (omega (arith, within, one_count))
+          ∙ one_more_before one old half first n within;
+      one_is =
+          one_more_before two half new second (length old.nodes.items) (omega (arith, one_count))
+          ∙ one_more_here one old half first;
+      two_is =
+          ap (lit_of new.nodes.items) (sym one_count) ∙ one_more_here two half new second;
+    }

@@ -7,7 +7,7 @@ use Rattle.std.proofs.lemmas.List.{get_or_append_left, get_or_push}
 use Rattle.clause_store.specs.declared.literal.Lit.{Lit}
 use Rattle.watched_literals.specs.declared.chains.Node.{Node}
 use Rattle.watched_literals.specs.Chains.{none, node_of, code_of, next_of, Avoids, IsAmong}
-use Rattle.watched_literals.specs.Chains.{IsChain, HasAllOf, AreLinked, AreEach, IsWalk}
+use Rattle.watched_literals.specs.Chains.{IsChain, HasAllOf, AreLinked, AreEach, IsWalk, IsUnlinked}
 use Rattle.watched_literals.specs.Chains.{first_of_list, last_of_list}
 use Rattle.watched_literals.proofs.ChainLemmas.{avoids_both, avoids_right, among_without}
 use Rattle.watched_literals.proofs.ChainLemmas.{node_other, node_same, chain_frame, chain_avoids}
@@ -15,16 +15,6 @@ use Rattle.watched_literals.proofs.ChainLemmas.{chain_apart, chain_rest, chain_c
 use Rattle.watched_literals.proofs.ChainLemmas.{chain_more, chain_avoids_new, blank}
 use Rattle.watched_literals.proofs.WalkLemmas.{last_own, later, list, chain_here, next_is}
 use Rattle.watched_literals.proofs.WalkLemmas.{walk_within, walk_own}
-
--- what `unlink` makes of the nodes and the heads
-pub record IsUnlinked (nodes : List Node) (heads : List ℕ) (code last next : ℕ)
-    (nodes1 : List Node) (heads1 : List ℕ) : Type 0 where
-  pub first_nodes : last ≡ none → nodes1 ≡ nodes
-  pub first_heads : last ≡ none → heads1 ≡ set heads code next
-  pub later_nodes :
-      last ≢ none
-      → nodes1 ≡ set nodes last (record { lit = (node_of nodes last).lit; next = next })
-  pub later_heads : last ≢ none → heads1 ≡ heads
 
 -- one chain lost a node; the others stayed
 record IsCut (nodes : List Node) (heads : List ℕ) (code : ℕ) (left : List ℕ)

@@ -175,7 +175,7 @@ stack_more waits stack places more is room = record {
           | inr after ↦
               elim (cases_eq row (length waits)) [
                 | inl same ↦
-                    get_or_push waits false false row same
+                    get_or_push waits false false row (sym same)
                     ∙ sym (get_or_past waits row false (omega (arith, same)))
                 | inr past ↦
                     get_or_past (waits ++ false ∷ []) row false

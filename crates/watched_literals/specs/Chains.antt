@@ -1,5 +1,5 @@
 -- The chains of nodes, one for each literal. No public clause cites this module.
-use Rattle.std.specs.Prelude.{◌≡◌, ◌≢◌, ◌<◌, ◌≤◌, ◌⊎◌, ◌+◌, ◌==◌, ℕ, zero, suc, if◌then◌else◌, List, [], ◌∷◌, ◌++◌, length, get_or, ⊤}
+use Rattle.std.specs.Prelude.{◌≡◌, ◌≢◌, ◌<◌, ◌≤◌, ◌⊎◌, ◌+◌, ◌==◌, ℕ, zero, suc, if◌then◌else◌, List, [], ◌∷◌, ◌++◌, length, get_or, set, ⊤}
 use Rattle.clause_store.specs.declared.literal.Lit.{Lit}
 use Rattle.watched_literals.specs.declared.chains.Node.{Node}
 
@@ -14,6 +14,10 @@ node_of nodes at = get_or nodes at (record { lit = record { 0 = 0 }; next = 4294
 -- the code of the literal at which the clause of a node is watched
 abbrev pub code_of : List Node → ℕ → ℕ
 code_of nodes at = (node_of nodes at).lit.0
+
+-- the literal of a node
+abbrev pub lit_of : List Node → ℕ → Lit
+lit_of nodes at = (node_of nodes at).lit
 
 -- the node after one
 abbrev pub next_of : List Node → ℕ → ℕ
@@ -82,6 +86,17 @@ pub record IsWalk (Has : ℕ → Type 0) (nodes : List Node) (heads : List ℕ) 
   pub last_is : last ≡ last_of_list kept
   pub at_is : at ≡ first_of_list rest
   pub done : AreEach Has kept
+
+-- the node after `last` was taken out of the chain of a literal, or the first one where that is
+-- none; another one follows it
+pub record IsUnlinked (nodes : List Node) (heads : List ℕ) (code last next : ℕ)
+    (nodes1 : List Node) (heads1 : List ℕ) : Type 0 where
+  pub first_nodes : last ≡ none → nodes1 ≡ nodes
+  pub first_heads : last ≡ none → heads1 ≡ set heads code next
+  pub later_nodes :
+      last ≢ none
+      → nodes1 ≡ set nodes last (record { lit = (node_of nodes last).lit; next = next })
+  pub later_heads : last ≢ none → heads1 ≡ heads
 
 -- how many nodes a walk has before it, of so many at most
 unfoldable pub nodes_left : ℕ → List Node → ℕ → ℕ

@@ -2,3 +2,5 @@ pub mod Chains
 pub mod Pends
 pub mod Standings
 pub mod Visits
+pub mod Watching
+pub mod Rooms

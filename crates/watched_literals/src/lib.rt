@@ -3,7 +3,9 @@
 #![tactic(auto)]
 
 mod chains;
+mod choosing;
 mod entry;
 mod pending;
 mod standing;
+mod tables;
 mod visit;
