@@ -9,3 +9,4 @@ mod pending;
 mod standing;
 mod tables;
 mod visit;
+mod watches;
