@@ -4,4 +4,6 @@ pub mod MoveLemmas
 pub mod LinkLemmas
 pub mod StackLemmas
 pub mod WatchLemmas
+pub mod KnownLemmas
+pub mod WatchingLemmas
 pub mod StandingLemmas

@@ -2,14 +2,15 @@
 -- literals isn't false by the assignments whose chains were walked, or the other one is true at a
 -- level that isn't higher. No public clause cites this module.
 use Rattle.std.specs.Prelude.{◌≡◌, ◌≢◌, ◌≤◌, ◌<◌, ◌+◌, ◌*◌, ℕ, Bool, true, false, List, length}
-use Rattle.std.specs.Prelude.{get_or, Any, Contains}
+use Rattle.std.specs.Prelude.{◌-◌, ◌/◌, ◌%◌, ◌==◌, if◌then◌else◌, get_or, set, Any, Contains}
 use Rattle.clause_store.specs.declared.literal.Lit.{Lit}
 use Rattle.clause_store.specs.Clause.{negation}
 use Rattle.clause_store.specs.Standing.{Followed}
 use Rattle.propagator.specs.Watched.{Attached}
 use Rattle.watched_literals.specs.declared.tables.Tables.{Tables}
 use Rattle.watched_literals.specs.declared.choosing.Choice.{Choice}
-use Rattle.watched_literals.specs.Chains.{none, lit_of, AreLinked}
+use Rattle.watched_literals.specs.declared.chains.Node.{Node}
+use Rattle.watched_literals.specs.Chains.{none, lit_of, AreLinked, IsUnlinked}
 
 -- two literals of a clause
 pub record IsPair (lits : List Lit) (one two : Lit) : Type 0 where
@@ -71,3 +72,30 @@ pub record AreWatching (vars : ℕ) (entries : List Attached) (tables : Tables)
       → AreSettled known next (lit_of tables.chains.nodes.items (2 * row))
       (lit_of tables.chains.nodes.items (2 * row + 1))
   pub reached : next ≤ length known
+
+-- the other node of the clause
+abbrev pub partner_of : ℕ → ℕ
+partner_of node = if node % 2 == 1 then node - 1 else node + 1
+
+-- the clause of a node is pending, or the literal of its other node is true at a level that isn't
+-- higher
+abbrev pub IsDone : Tables → List Followed → ℕ → ℕ → Type 0
+IsDone tables known level node =
+    get_or tables.pending.waits (node / 2) false ≡ false
+    → IsTrueBy level known (lit_of tables.chains.nodes.items (partner_of node))
+
+-- a node went from the chain of one literal to that of another, and the look at its clause ended at
+-- a place
+pub record IsMoved (lit to : Lit) (last at next : ℕ) (old new : Tables) : Type 0 where
+  pub half_nodes : List Node
+  pub half_heads : List ℕ
+  pub unlinked :
+      IsUnlinked old.chains.nodes.items old.chains.heads.items lit.0 last next half_nodes half_heads
+  pub nodes :
+      new.chains.nodes.items
+      ≡ set half_nodes at (record { lit = to; next = get_or half_heads to.0 none })
+  pub heads : new.chains.heads.items ≡ set half_heads to.0 at
+  pub place : ℕ
+  pub saved : new.saved.items ≡ set old.saved.items (at / 2) place
+  pub short : place ≢ none
+  pub pending : new.pending ≡ old.pending

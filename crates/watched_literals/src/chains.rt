@@ -3,6 +3,7 @@ ghost use Rattle.std.specs.Prelude.{◌≡◌, ◌≢◌, ◌≤◌, ◌<◌, �
 ghost use Rattle.std.specs.Prelude.{vec_capacity, vec_len};
 ghost use Rattle.watched_literals.specs.Chains.{none, IsUnlinked};
 ghost use Rattle.watched_literals.specs.Rooms.{AreNodesPut};
+ghost use Rattle.watched_literals.specs.Watching.{partner_of};
 
 use clause_store::Lit;
 
@@ -80,4 +81,11 @@ impl Chains {
             self.nodes[last as usize].next = next;
         }
     }
+}
+
+/// The other node of the clause of a node.
+pub fn partner(at: u32) -> u32
+    ensures { result ≡ partner_of at }
+{
+    at ^ 1
 }

@@ -6,6 +6,7 @@ mod chains;
 mod choosing;
 mod entry;
 mod pending;
+mod settled;
 mod standing;
 mod tables;
 mod visit;

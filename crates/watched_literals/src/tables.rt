@@ -1,7 +1,8 @@
 // What is kept for each clause beside its place in the store: its nodes, the place where the last
 // look at its literals ended, and whether it is pending.
-ghost use Rattle.std.specs.Prelude.{◌≡◌, ◌≤◌, ◌<◌, ◌+◌, length, OnOk, OnErr};
+ghost use Rattle.std.specs.Prelude.{◌≡◌, ◌≢◌, ◌≤◌, ◌<◌, ◌+◌, ◌/◌, length, OnOk, OnErr};
 ghost use Rattle.watched_literals.specs.Chains.{none};
+ghost use Rattle.watched_literals.specs.Watching.{IsMoved};
 ghost use Rattle.watched_literals.specs.Rooms.{HasRoom, IsRoomier, IsSame, IsPut, IsWaitPut};
 
 use crate::chains::Chains;
@@ -48,6 +49,28 @@ impl Tables {
         self.saved.push_reserved(first_place(clause));
         put_wait(&mut self.pending, clause, next, row);
     }
+
+    /// Moves a node that comes after `last` from the chain of a literal into that of another, and
+    /// keeps the place where the look at its clause ended.
+    pub fn move_node(&mut self, lit: Lit, to: Lit, last: u32, at: u32, next: u32, place: usize)
+        requires last { last ≢ none → last < length self.old.chains.nodes.items }
+        requires at { at < length self.old.chains.nodes.items }
+        requires row { at / 2 < length self.old.saved.items }
+        requires lit { lit.0 < length self.old.chains.heads.items }
+        requires to { to.0 < length self.old.chains.heads.items }
+        ensures { IsMoved lit to last at next self.old self.new }
+    {
+        self.saved[at as usize / 2] = short_place(place);
+        self.chains.unlink(lit, last, next);
+        self.chains.link(at, to);
+    }
+}
+
+/// A place as it is kept: any will do, as looks go round.
+fn short_place(place: usize) -> u32
+    ensures { result ≢ none }
+{
+    if place < BINARY as usize { place as u32 } else { 0 }
 }
 
 /// Where the first look at a clause begins.
