@@ -6,4 +6,5 @@ pub mod StackLemmas
 pub mod WatchLemmas
 pub mod KnownLemmas
 pub mod WatchingLemmas
+pub mod MovedLemmas
 pub mod StandingLemmas
