@@ -93,8 +93,8 @@ cut nodes heads code last at (x ∷ xs) rest nodes1 heads1 within few last_is ch
     let some : last ≢ none = λ e. omega (arith, own.0, few, e, last_is) in
     subst (λ ns. IsCut nodes heads code ((x ∷ xs) ++ rest) ns heads1)
     (sym (is.later_nodes some
-         ∙ ap (λ (l : ℕ). set nodes l
-         (record { lit = (node_of nodes l).lit; next = first_of_list rest })) last_is))
+    ∙ ap (λ (l : ℕ). set nodes l
+    (record { lit = (node_of nodes l).lit; next = first_of_list rest })) last_is))
     (subst (λ hs. IsCut nodes heads code ((x ∷ xs) ++ rest)
     (set nodes (last_of_list (x ∷ xs))
     (record { lit = (node_of nodes (last_of_list (x ∷ xs))).lit; next = first_of_list rest })) hs)
@@ -107,130 +107,130 @@ module _ (nodes : List Node) (heads : List ℕ) (code at : ℕ) (kept rest : Lis
     (is : IsCut nodes heads code (kept ++ rest) nodes1 heads1) (within : at < length nodes)
     (own : code_of nodes at ≡ code) (other_to : to.0 ≢ code) (to_within : to.0 < length heads)
   where
-  abbrev node : Node
-  node = record { lit = to; next = get_or heads1 to.0 none }
+    abbrev node : Node
+    node = record { lit = to; next = get_or heads1 to.0 none }
 
-  abbrev nodes2 : List Node
-  nodes2 = set nodes1 at node
+    abbrev nodes2 : List Node
+    nodes2 = set nodes1 at node
 
-  abbrev heads2 : List ℕ
-  heads2 = set heads1 to.0 at
+    abbrev heads2 : List ℕ
+    heads2 = set heads1 to.0 at
 
-  within1 : at < length nodes1
-  within1 = omega (arith, within, is.count)
+    within1 : at < length nodes1
+    within1 = omega (arith, within, is.count)
 
-  code_here : code_of nodes2 at ≡ to.0
-  code_here = ap (λ (it : Node). it.lit.0) (node_same nodes1 at node within1)
+    code_here : code_of nodes2 at ≡ to.0
+    code_here = ap (λ (it : Node). it.lit.0) (node_same nodes1 at node within1)
 
-  code_else : (n : ℕ) → n ≢ at → code_of nodes2 n ≡ code_of nodes n
-  code_else n other = ap (λ (it : Node). it.lit.0) (node_other nodes1 at node n other) ∙ is.codes n
+    code_else : (n : ℕ) → n ≢ at → code_of nodes2 n ≡ code_of nodes n
+    code_else n other = ap (λ (it : Node). it.lit.0) (node_other nodes1 at node n other) ∙ is.codes n
 
-  count2 : length nodes2 ≡ length nodes
-  count2 = length-set nodes1 at node ∙ is.count
+    count2 : length nodes2 ≡ length nodes
+    count2 = length-set nodes1 at node ∙ is.count
 
-  heads_count2 : length heads2 ≡ length heads
-  heads_count2 = length-set heads1 to.0 at ∙ is.heads_count
+    heads_count2 : length heads2 ≡ length heads
+    heads_count2 = length-set heads1 to.0 at ∙ is.heads_count
 
-  head_else : (c : ℕ) → c ≢ to.0 → get_or heads2 c none ≡ get_or heads1 c none
-  head_else c other = get_or-set_other heads1 to.0 c at none other
+    head_else : (c : ℕ) → c ≢ to.0 → get_or heads2 c none ≡ get_or heads1 c none
+    head_else c other = get_or-set_other heads1 to.0 c at none other
 
-  -- the chain that it left
-  left_chain : HasAllOf nodes2 code (get_or heads2 code none) (kept ++ rest)
-  left_chain = record {
-    chain =
-        subst (λ first. IsChain nodes2 code first (kept ++ rest))
-        (sym (head_else code (λ same. other_to (sym same))))
-        (chain_frame nodes1 at node code (get_or heads1 code none) (kept ++ rest)
-        (avoids_both at kept rest
-        (chain_apart nodes code (get_or heads code none) kept at rest list_is.chain)
-        (chain_rest nodes code (get_or heads code none) kept (at ∷ rest) list_is.chain).0.once)
-        is.chain);
-    all =
-        λ n inside coded. let other : n ≢ at =
-        λ same. other_to (sym code_here ∙ ap (code_of nodes2) (sym same) ∙ coded) in
-        among_without n kept at rest (λ same. other (sym same))
-        (list_is.all n (omega (arith, inside, count2)) (sym (code_else n other) ∙ coded));
-  }
+    -- the chain that it left
+    left_chain : HasAllOf nodes2 code (get_or heads2 code none) (kept ++ rest)
+    left_chain = record {
+      chain =
+          subst (λ first. IsChain nodes2 code first (kept ++ rest))
+          (sym (head_else code (λ same. other_to (sym same))))
+          (chain_frame nodes1 at node code (get_or heads1 code none) (kept ++ rest)
+          (avoids_both at kept rest
+          (chain_apart nodes code (get_or heads code none) kept at rest list_is.chain)
+          (chain_rest nodes code (get_or heads code none) kept (at ∷ rest) list_is.chain).0.once)
+          is.chain);
+      all =
+          λ n inside coded. let other : n ≢ at =
+          λ same. other_to (sym code_here ∙ ap (code_of nodes2) (sym same) ∙ coded) in
+          among_without n kept at rest (λ same. other (sym same))
+          (list_is.all n (omega (arith, inside, count2)) (sym (code_else n other) ∙ coded));
+    }
 
-  -- the chain that it came into
-  new_chain : (old : List ℕ) → HasAllOf nodes to.0 (get_or heads to.0 none) old
-      → HasAllOf nodes2 to.0 (get_or heads2 to.0 none) (at ∷ old)
-  new_chain old was = record {
-    chain =
-        subst (λ first. IsChain nodes2 to.0 first (at ∷ old))
-        (sym (get_or-set_same heads1 to.0 at none (omega (arith, to_within, is.heads_count))))
-        (chain_put nodes1 to.0 (get_or heads1 to.0 none) at node old within1 refl refl
-        (chain_avoids nodes to.0 (get_or heads to.0 none) old at was.chain
-        (λ same. other_to (sym same ∙ own)))
-        (subst (λ first. IsChain nodes1 to.0 first old) (sym (is.heads_stay to.0 other_to))
-        (is.stay to.0 (get_or heads to.0 none) old other_to was.chain)));
-    all =
-        λ n inside coded. elim (cases_eq n at) [
-          | inl same ↦ inl (sym same)
-          | inr other ↦
-              inr
-              (was.all n (omega (arith, inside, count2)) (sym (code_else n other) ∙ coded))
-        ];
-  }
+    -- the chain that it came into
+    new_chain : (old : List ℕ) → HasAllOf nodes to.0 (get_or heads to.0 none) old
+        → HasAllOf nodes2 to.0 (get_or heads2 to.0 none) (at ∷ old)
+    new_chain old was = record {
+      chain =
+          subst (λ first. IsChain nodes2 to.0 first (at ∷ old))
+          (sym (get_or-set_same heads1 to.0 at none (omega (arith, to_within, is.heads_count))))
+          (chain_put nodes1 to.0 (get_or heads1 to.0 none) at node old within1 refl refl
+          (chain_avoids nodes to.0 (get_or heads to.0 none) old at was.chain
+          (λ same. other_to (sym same ∙ own)))
+          (subst (λ first. IsChain nodes1 to.0 first old) (sym (is.heads_stay to.0 other_to))
+          (is.stay to.0 (get_or heads to.0 none) old other_to was.chain)));
+      all =
+          λ n inside coded. elim (cases_eq n at) [
+            | inl same ↦ inl (sym same)
+            | inr other ↦
+                inr
+                (was.all n (omega (arith, inside, count2)) (sym (code_else n other) ∙ coded))
+          ];
+    }
 
-  -- any other chain
-  other_chain : (c : ℕ) (old : List ℕ) → c ≢ to.0 → c ≢ code
-      → HasAllOf nodes c (get_or heads c none) old
-      → HasAllOf nodes2 c (get_or heads2 c none) old
-  other_chain c old not_to not_code was = record {
-    chain =
-        subst (λ first. IsChain nodes2 c first old)
-        (sym (head_else c not_to ∙ is.heads_stay c not_code))
-        (chain_frame nodes1 at node c (get_or heads c none) old
-        (chain_avoids nodes c (get_or heads c none) old at was.chain
-        (λ same. not_code (sym same ∙ own)))
-        (is.stay c (get_or heads c none) old not_code was.chain));
-    all =
-        λ n inside coded. let other : n ≢ at =
-        λ same. not_to (sym coded ∙ ap (code_of nodes2) same ∙ code_here) in
-        was.all n (omega (arith, inside, count2)) (sym (code_else n other) ∙ coded);
-  }
+    -- any other chain
+    other_chain : (c : ℕ) (old : List ℕ) → c ≢ to.0 → c ≢ code
+        → HasAllOf nodes c (get_or heads c none) old
+        → HasAllOf nodes2 c (get_or heads2 c none) old
+    other_chain c old not_to not_code was = record {
+      chain =
+          subst (λ first. IsChain nodes2 c first old)
+          (sym (head_else c not_to ∙ is.heads_stay c not_code))
+          (chain_frame nodes1 at node c (get_or heads c none) old
+          (chain_avoids nodes c (get_or heads c none) old at was.chain
+          (λ same. not_code (sym same ∙ own)))
+          (is.stay c (get_or heads c none) old not_code was.chain));
+      all =
+          λ n inside coded. let other : n ≢ at =
+          λ same. not_to (sym coded ∙ ap (code_of nodes2) same ∙ code_here) in
+          was.all n (omega (arith, inside, count2)) (sym (code_else n other) ∙ coded);
+    }
 
-  linked2 : AreLinked nodes2 heads2
-  linked2 = record {
-    few = omega (arith, linked.few, count2);
-    coded =
-        λ n inside. elim (cases_eq n at) [
-          | inl same ↦
-              omega (arith, ap (code_of nodes2) same ∙ code_here, to_within, heads_count2)
-          | inr other ↦
-              omega (
-                arith,
-                code_else n other,
-                linked.coded n (omega (arith, inside, count2)),
-                heads_count2,
-              )
-        ];
-    chains =
-        λ c inside. elim (cases_eq c to.0) [
-          | inl same ↦
-              subst (λ one. (xs : List ℕ) × HasAllOf nodes2 one (get_or heads2 one none) xs)
-              (sym same)
-              (let old = linked.chains to.0 to_within in (at ∷ old.0, new_chain old.0 old.1))
-          | inr not_to ↦
-              elim (cases_eq c code) [
-                | inl same ↦
-                    subst (λ one. (xs : List ℕ) × HasAllOf nodes2 one (get_or heads2 one none) xs)
-                    (sym same)
-                    (kept ++ rest, left_chain)
-                | inr not_code ↦
-                    let old = linked.chains c (omega (arith, inside, heads_count2)) in
-                    (old.0, other_chain c old.0 not_to not_code old.1)
-              ]
-        ];
-  }
+    linked2 : AreLinked nodes2 heads2
+    linked2 = record {
+      few = omega (arith, linked.few, count2);
+      coded =
+          λ n inside. elim (cases_eq n at) [
+            | inl same ↦
+                omega (arith, ap (code_of nodes2) same ∙ code_here, to_within, heads_count2)
+            | inr other ↦
+                omega (
+                  arith,
+                  code_else n other,
+                  linked.coded n (omega (arith, inside, count2)),
+                  heads_count2,
+                )
+          ];
+      chains =
+          λ c inside. elim (cases_eq c to.0) [
+            | inl same ↦
+                subst (λ one. (xs : List ℕ) × HasAllOf nodes2 one (get_or heads2 one none) xs)
+                (sym same)
+                (let old = linked.chains to.0 to_within in (at ∷ old.0, new_chain old.0 old.1))
+            | inr not_to ↦
+                elim (cases_eq c code) [
+                  | inl same ↦
+                      subst (λ one. (xs : List ℕ) × HasAllOf nodes2 one (get_or heads2 one none) xs)
+                      (sym same)
+                      (kept ++ rest, left_chain)
+                  | inr not_code ↦
+                      let old = linked.chains c (omega (arith, inside, heads_count2)) in
+                      (old.0, other_chain c old.0 not_to not_code old.1)
+                ]
+          ];
+    }
 
-  moved :
-      HasAllOf (set nodes1 at (record { lit = to; next = get_or heads1 to.0 none })) code
-      (get_or (set heads1 to.0 at) code none) (kept ++ rest)
-      × AreLinked (set nodes1 at (record { lit = to; next = get_or heads1 to.0 none }))
-      (set heads1 to.0 at)
-  moved = (left_chain, linked2)
+    moved :
+        HasAllOf (set nodes1 at (record { lit = to; next = get_or heads1 to.0 none })) code
+        (get_or (set heads1 to.0 at) code none) (kept ++ rest)
+        × AreLinked (set nodes1 at (record { lit = to; next = get_or heads1 to.0 none }))
+        (set heads1 to.0 at)
+    moved = (left_chain, linked2)
 
 -- a walk goes on when the node moved to the chain of another literal
 pub walk_moves : (Has : ℕ → Type 0) (nodes : List Node) (heads : List ℕ) (code last at : ℕ)

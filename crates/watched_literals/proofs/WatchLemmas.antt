@@ -263,7 +263,7 @@ module _ (trail : Assigned) (known : List Followed) (gone : HasGoneBack trail kn
       get_or-map as_followed trail.steps at no_step d left
       ∙ ap as_followed
       (sym (ap (λ steps. get_or steps at no_step) whole
-           ∙ get_or_append_left trail.steps front.0 no_step at left))
+      ∙ get_or_append_left trail.steps front.0 no_step at left))
       ∙ sym (was at d within)
 
   low : (at : ℕ) (d : Followed) → at < length known → at < length trail.steps

@@ -70,7 +70,11 @@ impl Tables {
 fn short_place(place: usize) -> u32
     ensures { result ≢ none }
 {
-    if place < BINARY as usize { place as u32 } else { 0 }
+    if place < BINARY as usize {
+        place as u32
+    } else {
+        0
+    }
 }
 
 /// Where the first look at a clause begins.
