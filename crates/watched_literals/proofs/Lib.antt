@@ -1,0 +1,10 @@
+pub mod ChainLemmas
+pub mod WalkLemmas
+pub mod MoveLemmas
+pub mod LinkLemmas
+pub mod StackLemmas
+pub mod WatchLemmas
+pub mod KnownLemmas
+pub mod WatchingLemmas
+pub mod MovedLemmas
+pub mod StandingLemmas

@@ -1,0 +1,6 @@
+pub mod Chains
+pub mod Pends
+pub mod Standings
+pub mod Visits
+pub mod Watching
+pub mod Rooms
