@@ -115,7 +115,8 @@ chain_more nodes node code at (x ∷ xs) chain =
     )
 
 -- a chain for one literal avoids a node for another, and a number that no node has
-pub chain_avoids : (nodes : List Node) (code at : ℕ) (xs : List ℕ) (k : ℕ) → IsChain nodes code at xs
+pub chain_avoids : (nodes : List Node) (code at : ℕ) (xs : List ℕ) (k : ℕ)
+    → IsChain nodes code at xs
     → code_of nodes k ≢ code → Avoids k xs
 chain_avoids nodes code at [] k chain other = tt
 chain_avoids nodes code at (x ∷ xs) k chain other = (
@@ -138,7 +139,8 @@ chain_first nodes code at [] chain = chain
 chain_first nodes code at (x ∷ xs) chain = chain.0.here
 
 -- a part of it is a chain
-pub chain_rest : (nodes : List Node) (code at : ℕ) (xs ys : List ℕ) → IsChain nodes code at (xs ++ ys)
+pub chain_rest : (nodes : List Node) (code at : ℕ) (xs ys : List ℕ)
+    → IsChain nodes code at (xs ++ ys)
     → IsChain nodes code (first_of_list ys) ys
 chain_rest nodes code at [] ys chain =
     subst (λ first. IsChain nodes code first ys) (chain_first nodes code at ys chain) chain

@@ -1,5 +1,6 @@
 -- A node moves from the chain of one literal into that of another.
-use Rattle.std.proofs.Common.{◌≡◌, ◌≢◌, ◌≤◌, ◌<◌, ◌+◌, ℕ, List, [], ◌∷◌, ◌++◌, length, length-append}
+use Rattle.std.proofs.Common.{◌≡◌, ◌≢◌, ◌≤◌, ◌<◌, ◌+◌, ℕ, List, [], ◌∷◌, ◌++◌, length}
+use Rattle.std.proofs.Common.{length-append}
 use Rattle.std.proofs.Common.{length-set, get_or, get_or-set_same, get_or-set_other, refl, sym, ap}
 use Rattle.std.proofs.Common.{subst, ◌∙◌, arith, inl, inr, set}
 use Rattle.std.proofs.lemmas.Bool.{cases_eq}
@@ -123,7 +124,8 @@ module _ (nodes : List Node) (heads : List ℕ) (code at : ℕ) (kept rest : Lis
     code_here = ap (λ (it : Node). it.lit.0) (node_same nodes1 at node within1)
 
     code_else : (n : ℕ) → n ≢ at → code_of nodes2 n ≡ code_of nodes n
-    code_else n other = ap (λ (it : Node). it.lit.0) (node_other nodes1 at node n other) ∙ is.codes n
+    code_else n other =
+        ap (λ (it : Node). it.lit.0) (node_other nodes1 at node n other) ∙ is.codes n
 
     count2 : length nodes2 ≡ length nodes
     count2 = length-set nodes1 at node ∙ is.count

@@ -1,5 +1,6 @@
 -- Watches when one node went into the chain of another literal.
-use Rattle.std.proofs.Common.{◌≡◌, ◌≢◌, ◌≤◌, ◌<◌, ◌+◌, ◌-◌, ◌*◌, ◌/◌, ◌%◌, ℕ, Bool, true, false, List}
+use Rattle.std.proofs.Common.{◌≡◌, ◌≢◌, ◌≤◌, ◌<◌, ◌+◌, ◌-◌, ◌*◌, ◌/◌, ◌%◌, ℕ, Bool, true, false}
+use Rattle.std.proofs.Common.{List}
 use Rattle.std.proofs.Common.{length, length-set, get_or, set, get_or-set_same, get_or-set_other}
 use Rattle.std.proofs.Common.{refl, sym, ap, subst, ◌∙◌, arith, inl, inr, ◌⊎◌}
 use Rattle.std.specs.Prelude.{Contains}
@@ -171,17 +172,18 @@ module _ (vars : ℕ) (entries : List Attached) (old new : Tables) (known : List
     other_settles : get_or old.pending.waits (at / 2) false ≡ false
         → IsSettled known next (lit_of old.chains.nodes.items (partner_of at)) to
     other_settles off k d before inside makes =
-        absurd (untrue (get_or known k d).level (other_is.other_settled off k d before inside makes))
+        absurd
+        (untrue (get_or known k d).level (other_is.other_settled off k d before inside makes))
 
-    off_before : (row : ℕ) → get_or new.pending.waits row false ≡ false
-        → get_or old.pending.waits row false ≡ false
-    off_before row off = ap (λ pending. get_or pending.waits row false) (sym is.pending) ∙ off
+    off_before : (number : ℕ) → get_or new.pending.waits number false ≡ false
+        → get_or old.pending.waits number false ≡ false
+    off_before number off = ap (λ pending. get_or pending.waits number false) (sym is.pending) ∙ off
 
-    saved_else : (row : ℕ) → row ≢ at / 2
-        → get_or new.saved.items row 0 ≡ get_or old.saved.items row 0
-    saved_else row other =
-        ap (λ saved. get_or saved row 0) is.saved
-        ∙ get_or-set_other old.saved.items (at / 2) row is.place 0 other
+    saved_else : (number : ℕ) → number ≢ at / 2
+        → get_or new.saved.items number 0 ≡ get_or old.saved.items number 0
+    saved_else number other =
+        ap (λ saved. get_or saved number 0) is.saved
+        ∙ get_or-set_other old.saved.items (at / 2) number is.place 0 other
 
     saved_here : get_or new.saved.items (at / 2) 0 ≡ is.place
     saved_here =
@@ -189,29 +191,29 @@ module _ (vars : ℕ) (entries : List Attached) (old new : Tables) (known : List
         ∙ get_or-set_same old.saved.items (at / 2) is.place 0
         (omega (arith, row_within, was.saved))
 
-    row_else : (row : ℕ) (d : Attached) → row < length entries → row ≢ at / 2
-        → IsRow (get_or entries row d).lits (get_or new.saved.items row 0)
-        (get_or new.pending.waits row false) (lit_of new.chains.nodes.items (2 * row))
-        (lit_of new.chains.nodes.items (2 * row + 1))
-    row_else row d inside other =
+    row_else : (number : ℕ) (d : Attached) → number < length entries → number ≢ at / 2
+        → IsRow (get_or entries number d).lits (get_or new.saved.items number 0)
+        (get_or new.pending.waits number false) (lit_of new.chains.nodes.items (2 * number))
+        (lit_of new.chains.nodes.items (2 * number + 1))
+    row_else number d inside other =
         rw (
-          saved_else row other,
+          saved_else number other,
           is.pending,
-          lit_else (2 * row) (λ same. other (grind (arith, same))),
-          lit_else (2 * row + 1) (λ same. other (grind (arith, same))),
+          lit_else (2 * number) (λ same. other (grind (arith, same))),
+          lit_else (2 * number + 1) (λ same. other (grind (arith, same))),
         )
-        (was.rows row d inside)
+        (was.rows number d inside)
 
-    settled_else : (row : ℕ) → row < length entries → row ≢ at / 2
-        → get_or new.pending.waits row false ≡ false
-        → AreSettled known next (lit_of new.chains.nodes.items (2 * row))
-        (lit_of new.chains.nodes.items (2 * row + 1))
-    settled_else row inside other off =
+    settled_else : (number : ℕ) → number < length entries → number ≢ at / 2
+        → get_or new.pending.waits number false ≡ false
+        → AreSettled known next (lit_of new.chains.nodes.items (2 * number))
+        (lit_of new.chains.nodes.items (2 * number + 1))
+    settled_else number inside other off =
         rw (
-          lit_else (2 * row) (λ same. other (grind (arith, same))),
-          lit_else (2 * row + 1) (λ same. other (grind (arith, same))),
+          lit_else (2 * number) (λ same. other (grind (arith, same))),
+          lit_else (2 * number + 1) (λ same. other (grind (arith, same))),
         )
-        (was.settled row inside (off_before row off))
+        (was.settled number inside (off_before number off))
 
     row_here : (d : Attached)
         → IsRow (get_or entries (at / 2) d).lits (get_or new.saved.items (at / 2) 0)
@@ -300,22 +302,22 @@ module _ (vars : ℕ) (entries : List Attached) (old new : Tables) (known : List
       waits = ap (λ pending. length pending.waits) is.pending ∙ was.waits;
       few = was.few;
       rows =
-          λ row d inside. elim (cases_eq row (at / 2)) [
+          λ number d inside. elim (cases_eq number (at / 2)) [
             | inl same ↦
                 subst
                 (λ r. IsRow (get_or entries r d).lits (get_or new.saved.items r 0)
                 (get_or new.pending.waits r false) (lit_of new.chains.nodes.items (2 * r))
                 (lit_of new.chains.nodes.items (2 * r + 1))) (sym same) (row_here d)
-            | inr other ↦ row_else row d inside other
+            | inr other ↦ row_else number d inside other
           ];
       settled =
-          λ row inside off. elim (cases_eq row (at / 2)) [
+          λ number inside off. elim (cases_eq number (at / 2)) [
             | inl same ↦
                 subst
                 (λ r. AreSettled known next (lit_of new.chains.nodes.items (2 * r))
                 (lit_of new.chains.nodes.items (2 * r + 1))) (sym same)
                 (settled_here (ap (λ r. get_or new.pending.waits r false) (sym same) ∙ off))
-            | inr other ↦ settled_else row inside other off
+            | inr other ↦ settled_else number inside other off
           ];
       reached = was.reached;
     }

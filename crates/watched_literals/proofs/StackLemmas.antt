@@ -28,7 +28,8 @@ waiting_few : (waits : List Bool) → sum_by one_if waits ≤ length waits
 waiting_few waits =
     omega (arith, sum_by-le one_if 1 waits (λ k d low. at_most_one (get_or waits k d)))
 
-module _ (waits : List Bool) (stack : List ℕ) (places : ℕ) (is_stack : IsStack waits stack places) where
+module _ (waits : List Bool) (stack : List ℕ) (places : ℕ)
+    (is_stack : IsStack waits stack places) where
   -- there are no more places than clauses
   pub stack_fits : length stack ≤ length waits
   stack_fits = omega (arith, is_stack.few, waiting_few waits)

@@ -1,5 +1,6 @@
 -- Watches that are opened, get a clause, and go back.
-use Rattle.std.proofs.Common.{◌≡◌, ◌≢◌, ◌≤◌, ◌<◌, ◌+◌, ◌*◌, ℕ, Bool, true, false, min, List, [], ◌∷◌}
+use Rattle.std.proofs.Common.{◌≡◌, ◌≢◌, ◌≤◌, ◌<◌, ◌+◌, ◌*◌, ℕ, Bool, true, false, min, List, []}
+use Rattle.std.proofs.Common.{◌∷◌}
 use Rattle.std.proofs.Common.{◌++◌, length, length-append, get_or, map, take, replicate, refl, sym}
 use Rattle.std.proofs.Common.{ap, subst, ◌∙◌, arith, inl, inr}
 use Rattle.std.proofs.Common.{zero, suc, None}
@@ -54,8 +55,8 @@ opened vars tables nodes heads saved waits = record {
   saved = ap length saved;
   waits = ap length waits;
   few = omega arith;
-  rows = λ row d within. absurd (omega (arith, within));
-  settled = λ row within. absurd (omega (arith, within));
+  rows = λ number d within. absurd (omega (arith, within));
+  settled = λ number within. absurd (omega (arith, within));
   reached = omega arith;
 }
 
@@ -93,39 +94,40 @@ module _ (vars : ℕ) (entries : List Attached) (old mid new : Tables) (known : 
   two_at : lit_of new.chains.nodes.items (2 * length entries + 1) ≡ choice.two
   two_at = ap (λ n. lit_of new.chains.nodes.items (n + 1)) (sym nodes_mid) ∙ is.nodes.two_is
 
-  waits_before : (row : ℕ) → row < length entries
-      → get_or new.pending.waits row false ≡ get_or old.pending.waits row false
-  waits_before row within =
-      is.wait.others row (λ same. omega (arith, same, within, saved_mid))
-      ∙ ap (λ waits. get_or waits row false) roomier.waits
-      ∙ get_or_append_left old.pending.waits (false ∷ []) false row
+  waits_before : (number : ℕ) → number < length entries
+      → get_or new.pending.waits number false ≡ get_or old.pending.waits number false
+  waits_before number within =
+      is.wait.others number (λ same. omega (arith, same, within, saved_mid))
+      ∙ ap (λ waits. get_or waits number false) roomier.waits
+      ∙ get_or_append_left old.pending.waits (false ∷ []) false number
       (omega (arith, within, was.waits))
 
-  saved_before : (row : ℕ) → row < length entries
-      → get_or new.saved.items row 0 ≡ get_or old.saved.items row 0
-  saved_before row within =
-      ap (λ saved. get_or saved row 0) is.saved
-      ∙ get_or_append_left mid.saved.items (is.place ∷ []) 0 row (omega (arith, within, saved_mid))
-      ∙ ap (λ saved. get_or saved row 0) roomier.saved
+  saved_before : (number : ℕ) → number < length entries
+      → get_or new.saved.items number 0 ≡ get_or old.saved.items number 0
+  saved_before number within =
+      ap (λ saved. get_or saved number 0) is.saved
+      ∙ get_or_append_left mid.saved.items (is.place ∷ []) 0 number
+      (omega (arith, within, saved_mid))
+      ∙ ap (λ saved. get_or saved number 0) roomier.saved
 
   saved_at : get_or new.saved.items (length entries) 0 ≡ is.place
   saved_at =
       ap (λ saved. get_or saved (length entries) 0) is.saved
       ∙ get_or_push mid.saved.items is.place 0 (length entries) saved_mid
 
-  old_row : (row : ℕ) (d : Attached) → row < length entries
-      → IsRow (get_or (entries ++ entry ∷ []) row d).lits (get_or new.saved.items row 0)
-      (get_or new.pending.waits row false) (lit_of new.chains.nodes.items (2 * row))
-      (lit_of new.chains.nodes.items (2 * row + 1))
-  old_row row d within =
+  old_row : (number : ℕ) (d : Attached) → number < length entries
+      → IsRow (get_or (entries ++ entry ∷ []) number d).lits (get_or new.saved.items number 0)
+      (get_or new.pending.waits number false) (lit_of new.chains.nodes.items (2 * number))
+      (lit_of new.chains.nodes.items (2 * number + 1))
+  old_row number d within =
       rw (
-        get_or_append_left entries (entry ∷ []) d row within,
-        saved_before row within,
-        waits_before row within,
-        lit_before (2 * row) (omega (arith, within)),
-        lit_before (2 * row + 1) (omega (arith, within)),
+        get_or_append_left entries (entry ∷ []) d number within,
+        saved_before number within,
+        waits_before number within,
+        lit_before (2 * number) (omega (arith, within)),
+        lit_before (2 * number + 1) (omega (arith, within)),
       )
-      (was.rows row d within)
+      (was.rows number d within)
 
   new_row : (d : Attached)
       → IsRow (get_or (entries ++ entry ∷ []) (length entries) d).lits
@@ -139,24 +141,25 @@ module _ (vars : ℕ) (entries : List Attached) (old mid new : Tables) (known : 
         pair = chosen.pair;
         short = chosen.short;
         short_waits =
-            λ short. ap (λ row. get_or new.pending.waits row false) (sym saved_mid)
+            λ short. ap (λ number. get_or new.pending.waits number false) (sym saved_mid)
             ∙ is.wait.short short;
         binary = is.binary;
       })
 
-  old_settled : (row : ℕ) → row < length entries → get_or new.pending.waits row false ≡ false
-      → AreSettled known next (lit_of new.chains.nodes.items (2 * row))
-      (lit_of new.chains.nodes.items (2 * row + 1))
-  old_settled row within off =
+  old_settled : (number : ℕ) → number < length entries
+      → get_or new.pending.waits number false ≡ false
+      → AreSettled known next (lit_of new.chains.nodes.items (2 * number))
+      (lit_of new.chains.nodes.items (2 * number + 1))
+  old_settled number within off =
       rw (
-        lit_before (2 * row) (omega (arith, within)),
-        lit_before (2 * row + 1) (omega (arith, within)),
+        lit_before (2 * number) (omega (arith, within)),
+        lit_before (2 * number + 1) (omega (arith, within)),
       )
-      (was.settled row within (sym (waits_before row within) ∙ off))
+      (was.settled number within (sym (waits_before number within) ∙ off))
 
-  at_count : (row : ℕ) → row < length (entries ++ entry ∷ []) → length entries ≤ row
-      → row ≡ length entries
-  at_count row within after =
+  at_count : (number : ℕ) → number < length (entries ++ entry ∷ []) → length entries ≤ number
+      → number ≡ length entries
+  at_count number within after =
       omega (arith, within, after, length-append entries (entry ∷ []))
 
   -- where a clause is put last, it is watched
@@ -188,24 +191,24 @@ module _ (vars : ℕ) (entries : List Attached) (old mid new : Tables) (known : 
         );
     few = omega (arith, few, length-append entries (entry ∷ []));
     rows =
-        λ row d within. elim (cases_lt row (length entries)) [
-          | inl before ↦ old_row row d before
+        λ number d within. elim (cases_lt number (length entries)) [
+          | inl before ↦ old_row number d before
           | inr after ↦
               subst
               (λ r. IsRow (get_or (entries ++ entry ∷ []) r d).lits (get_or new.saved.items r 0)
               (get_or new.pending.waits r false) (lit_of new.chains.nodes.items (2 * r))
               (lit_of new.chains.nodes.items (2 * r + 1)))
-              (sym (at_count row within after)) (new_row d)
+              (sym (at_count number within after)) (new_row d)
         ];
     settled =
-        λ row within off. elim (cases_lt row (length entries)) [
-          | inl before ↦ old_settled row before off
+        λ number within off. elim (cases_lt number (length entries)) [
+          | inl before ↦ old_settled number before off
           | inr after ↦
-              unsettled known next (lit_of new.chains.nodes.items (2 * row))
-              (lit_of new.chains.nodes.items (2 * row + 1))
+              unsettled known next (lit_of new.chains.nodes.items (2 * number))
+              (lit_of new.chains.nodes.items (2 * number + 1))
               (is.wait.later
               (ap (λ r. get_or new.pending.waits r false)
-              (saved_mid ∙ sym (at_count row within after)) ∙ off))
+              (saved_mid ∙ sym (at_count number within after)) ∙ off))
         ];
     reached = was.reached;
   }
@@ -330,7 +333,7 @@ module _ (trail : Assigned) (known : List Followed) (gone : HasGoneBack trail kn
     few = watching.few;
     rows = watching.rows;
     settled =
-        λ row within off. let both = watching.settled row within off in
+        λ number within off. let both = watching.settled number within off in
         record {
           first =
               settled_still next less _ _ watching.reached fewer left both.first;

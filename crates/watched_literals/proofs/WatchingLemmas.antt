@@ -1,7 +1,9 @@
--- Watches while assignments are followed: more assignments, one clause more that is pending, one node
+-- Watches while assignments are followed: more assignments, one more pending clause, one node
 -- in another chain, and one chain that was walked to its end.
-use Rattle.std.proofs.Common.{◌≡◌, ◌≢◌, ◌≤◌, ◌<◌, ◌+◌, ◌-◌, ◌*◌, ◌/◌, ◌%◌, ℕ, Bool, true, false, eqb}
-use Rattle.std.proofs.Common.{List, [], ◌∷◌, ◌++◌, length, length-append, length-set, get_or, map, set}
+use Rattle.std.proofs.Common.{◌≡◌, ◌≢◌, ◌≤◌, ◌<◌, ◌+◌, ◌-◌, ◌*◌, ◌/◌, ◌%◌, ℕ, Bool, true, false}
+use Rattle.std.proofs.Common.{eqb}
+use Rattle.std.proofs.Common.{List, [], ◌∷◌, ◌++◌, length, length-append, length-set, get_or, map}
+use Rattle.std.proofs.Common.{set}
 use Rattle.std.proofs.Common.{get_or-set_same, get_or-set_other, refl, sym, ap, subst, ◌∙◌, arith}
 use Rattle.std.proofs.Common.{inl, inr, ◌⊎◌}
 use Rattle.std.specs.Prelude.{Any, Contains}

@@ -1,5 +1,6 @@
 -- The tables of the attached clauses when a clause is put last. No public clause cites this module.
-use Rattle.std.specs.Prelude.{◌≡◌, ◌≢◌, ◌≤◌, ◌<◌, ◌+◌, ◌++◌, ◌∷◌, [], ℕ, Bool, true, false, List, length}
+use Rattle.std.specs.Prelude.{◌≡◌, ◌≢◌, ◌≤◌, ◌<◌, ◌+◌, ◌++◌, ◌∷◌, [], ℕ, Bool, true, false, List}
+use Rattle.std.specs.Prelude.{length}
 use Rattle.std.specs.Prelude.{get_or, vec_len, vec_capacity}
 use Rattle.clause_store.specs.declared.literal.Lit.{Lit}
 use Rattle.watched_literals.specs.declared.chains.Chains.{Chains}

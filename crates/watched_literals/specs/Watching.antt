@@ -63,14 +63,14 @@ pub record AreWatching (vars : ℕ) (entries : List Attached) (tables : Tables)
   pub waits : length tables.pending.waits ≡ length entries
   pub few : length entries ≤ 2147483647
   pub rows :
-      (row : ℕ) (d : Attached) → row < length entries
-      → IsRow (get_or entries row d).lits (get_or tables.saved.items row 0)
-      (get_or tables.pending.waits row false) (lit_of tables.chains.nodes.items (2 * row))
-      (lit_of tables.chains.nodes.items (2 * row + 1))
+      (number : ℕ) (d : Attached) → number < length entries
+      → IsRow (get_or entries number d).lits (get_or tables.saved.items number 0)
+      (get_or tables.pending.waits number false) (lit_of tables.chains.nodes.items (2 * number))
+      (lit_of tables.chains.nodes.items (2 * number + 1))
   pub settled :
-      (row : ℕ) → row < length entries → get_or tables.pending.waits row false ≡ false
-      → AreSettled known next (lit_of tables.chains.nodes.items (2 * row))
-      (lit_of tables.chains.nodes.items (2 * row + 1))
+      (number : ℕ) → number < length entries → get_or tables.pending.waits number false ≡ false
+      → AreSettled known next (lit_of tables.chains.nodes.items (2 * number))
+      (lit_of tables.chains.nodes.items (2 * number + 1))
   pub reached : next ≤ length known
 
 -- the other node of the clause

@@ -18,7 +18,8 @@ invariant_of-self-2 c =
     subst
     (λ (entries : List Attached). AreWatching c.self.inside.vars entries c.put.new.self
     (map as_followed c.self.inside.known.value.steps) c.self.inside.next)
-    (sym (c.push_reserved.ensures.items ∙ ap (λ (es : List Attached). es ++ c.of.result ∷ []) c.reserve.ensures.items))
+    (sym (c.push_reserved.ensures.items
+    ∙ ap (λ (es : List Attached). es ++ c.of.result ∷ []) c.reserve.ensures.items))
     (attached c.self.inside.vars c.self.inside.entries.items c.self.inside.tables
     c.make_room.new.self c.put.new.self (map as_followed c.self.inside.known.value.steps)
     c.self.inside.next c.of.result c.choose-choice.result c.self.invariant
