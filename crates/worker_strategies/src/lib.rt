@@ -16,4 +16,4 @@ pub use laws::{
     round_is, spent_is, tests_compose,
 };
 pub use outcome::Outcome;
-pub use telling::single_told;
+pub use telling::{coherence_told, reduce_told, single_told};
