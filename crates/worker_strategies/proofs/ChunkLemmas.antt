@@ -1,8 +1,10 @@
 -- What answers of a tester say of many candidates at once.
-use Rattle.std.proofs.Common.{◌≡◌, ◌≢◌, ◌<◌, ◌≤◌, ◌+◌, ◌∙◌, ℕ, Bool, true, false, List, [], ◌∷◌, length}
+use Rattle.std.proofs.Common.{◌≡◌, ◌<◌, ◌≤◌, ◌+◌, ◌∙◌, ℕ, Bool, true, false, List, []}
+use Rattle.std.proofs.Common.{◌∷◌, length}
 use Rattle.std.proofs.Common.{refl, sym, ap, subst, inl, inr, arith, Some, None, map, filter, take}
-use Rattle.std.proofs.Common.{get_or, fold, not, slice_get, zero, suc, ◌++◌, ◌==◌, ◌&&◌, length-append}
-use Rattle.std.specs.Prelude.{All, Any, Contains, IfSome, IsTrue}
+use Rattle.std.proofs.Common.{get_or, fold, not, slice_get, zero, suc, ◌++◌, ◌==◌, ◌&&◌}
+use Rattle.std.proofs.Common.{length-append}
+use Rattle.std.specs.Prelude.{All, Any, Contains}
 use Rattle.std.proofs.lemmas.Bool.{cases_Bool, eqb-true, eq-eqb, false≢true}
 use Rattle.std.proofs.lemmas.List.{length-take-le}
 use Rattle.std.proofs.lemmas.List.Elements.{All-contains, All-head, All-nil, All-weaker}
@@ -12,7 +14,7 @@ use Rattle.std.proofs.lemmas.List.Folds.{Any-from_list_any, list_any-from_Any}
 use Rattle.item_list.proofs.ListLemmas.{Any-append_left}
 use Rattle.ground_program.specs.declared.program.Mode.{Mode}
 use Rattle.ground_program.specs.declared.program.Named.{Named}
-use Rattle.ground_program.specs.Bounds.{IsCandidate, Shows}
+use Rattle.ground_program.specs.Bounds.{IsCandidate}
 use Rattle.clause_store.specs.declared.literal.Lit.{Lit}
 use Rattle.clause_store.specs.Clause.{IsTrueIn}
 use Rattle.clause_store.specs.Counted.{Counted}
@@ -21,7 +23,7 @@ use Rattle.normal_program.specs.declared.normal.Normal.{Normal}
 use Rattle.normal_program.specs.Normal.{IsAnswerSetN, extension}
 use Rattle.normal_program.specs.Limit.{IsNormal}
 use Rattle.coherence_test.specs.declared.asked.Core.{Core}
-use Rattle.coherence_test.specs.Asked.{Answers as Meets, IsCoreFor, MeetsCore}
+use Rattle.coherence_test.specs.Asked.{Answers as Meets, IsCoreFor}
 use Rattle.worker_jobs.specs.declared.job.Job.TheVariants.{Chunk}
 use Rattle.worker_jobs.specs.declared.gain.RoundEnd.TheVariants.{Done}
 use Rattle.worker_jobs.specs.Gain.{HasGained, IsProvedCandidate}
@@ -125,7 +127,8 @@ module _ (names : List Named) (mode : Mode) (clause : List Lit) where
       let lit = test_literal names mode cand in
       let met = map (test_literal names mode) named in
       elim (cases_Bool (has_literal met lit)) [
-        | inl is ↦ more_keeps named cand lit (candidate_of names mode named lit (has_there met lit is))
+        | inl is ↦
+            more_keeps named cand lit (candidate_of names mode named lit (has_there met lit is))
         | inr lacks ↦
             let there : is_named named cand ≡ true =
             rw (has_by clause lit here, lacks) refl in
@@ -223,7 +226,8 @@ module _ (normal : Normal) (mode : Mode) (cands : List ℕ) (is : IsNormal norma
             (map (test_literal normal.names mode) rest) true_ones)),
       )
 
-  module _ (core : Core) (core_is : IsCoreFor normal (asked_for normal.names mode (Chunk cands)) core)
+  module _ (core : Core)
+      (core_is : IsCoreFor normal (asked_for normal.names mode (Chunk cands)) core)
       (named : List ℕ) (names_all : AreNamedIn normal.names mode cands core.lits named) where
     -- each literal of the core is that of a named candidate
     its_named : (lit : Lit) → Contains core.lits lit → HasCandidateOf normal.names mode named lit

@@ -1,7 +1,7 @@
 -- What answers of a tester say of candidates.
-use Rattle.std.proofs.Common.{◌≡◌, ◌⊎◌, ◌≤◌, ℕ, Bool, true, false, List, [], ◌∷◌, length, refl, sym}
+use Rattle.std.proofs.Common.{◌≡◌, ℕ, Bool, true, false, List, [], ◌∷◌, length, refl, sym}
 use Rattle.std.proofs.Common.{subst, inl, inr, arith, Some, None, true≢false}
-use Rattle.std.specs.Prelude.{All, Any, Contains, IfSome, IsTrue}
+use Rattle.std.specs.Prelude.{All, Contains, IsTrue}
 use Rattle.std.proofs.lemmas.Bool.{false≢true}
 use Rattle.std.proofs.lemmas.List.Elements.{All-nil, All-cons, All-head, All-weaker}
 use Rattle.std.proofs.lemmas.List.Elements.{All-contains}
@@ -17,10 +17,8 @@ use Rattle.normal_program.specs.Limit.{IsNormal}
 use Rattle.anytime_core.specs.Truth.{IsCoherent}
 use Rattle.coherence_test.specs.declared.asked.Asked.{Asked}
 use Rattle.coherence_test.specs.declared.asked.Core.{Core}
-use Rattle.coherence_test.specs.Asked.{Answers as Meets, IsCoreFor, MeetsCore}
-use Rattle.worker_jobs.specs.declared.job.Job.{Job}
+use Rattle.coherence_test.specs.Asked.{Answers as Meets, IsCoreFor}
 use Rattle.worker_jobs.specs.declared.job.Job.TheVariants.{Coherence, Single}
-use Rattle.worker_jobs.specs.declared.gain.Gain.{Gain}
 use Rattle.worker_jobs.specs.declared.gain.RoundEnd.{RoundEnd}
 use Rattle.worker_jobs.specs.declared.gain.RoundEnd.TheVariants.{Done}
 use Rattle.worker_jobs.specs.Gain.{IsProved, IsProvedCandidate, HasGained, IsTrueGain}

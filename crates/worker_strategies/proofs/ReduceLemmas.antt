@@ -1,32 +1,35 @@
 -- The disjunction of candidates, and what answers of a tester say of them.
-use Rattle.std.proofs.Common.{◌≡◌, ◌≢◌, ◌<◌, ◌≤◌, ◌+◌, ◌*◌, ◌/◌, ◌%◌, ◌∙◌, ℕ, Bool, true, false, List, []}
-use Rattle.std.proofs.Common.{◌∷◌, ◌++◌, length, refl, sym, ap, subst, inl, inr, arith, Some, None}
-use Rattle.std.proofs.Common.{fold, get_or, map, ◌⊎◌, ◌==◌, suc}
-use Rattle.std.specs.Prelude.{All, AllPairs, Any, Contains, IfSome, IsTrue}
+use Rattle.std.proofs.Common.{◌≡◌, ◌≢◌, ◌≤◌, ◌+◌, ◌*◌, ◌∙◌, ℕ, Bool, false}
+use Rattle.std.proofs.Common.{List, []}
+use Rattle.std.proofs.Common.{◌∷◌, length, refl, sym, ap, subst, inl, inr, arith, Some, None}
+use Rattle.std.proofs.Common.{fold, get_or, map, ◌⊎◌, suc}
+use Rattle.std.specs.Prelude.{All, Any, Contains, IsTrue}
 use Rattle.std.proofs.lemmas.Bool.{cases_Bool, false≢true}
 use Rattle.std.proofs.lemmas.List.Quantifiers.{all_pairs_push}
 use Rattle.std.proofs.lemmas.List.Elements.{All-contains, All-nil, All-push}
 use Rattle.std.proofs.lemmas.List.Elements.{All-map, All-weaker, All-contains_itself}
-use Rattle.std.proofs.lemmas.List.Elements.{Contains-append_left, Contains-push, Contains-push_cases}
+use Rattle.std.proofs.lemmas.List.Elements.{Contains-append_left, Contains-push}
+use Rattle.std.proofs.lemmas.List.Elements.{Contains-push_cases}
 use Rattle.ground_program.specs.declared.program.Mode.{Mode}
 use Rattle.ground_program.specs.declared.program.Mode.TheVariants.{Cautious, Brave}
 use Rattle.ground_program.specs.declared.program.Named.{Named}
-use Rattle.ground_program.specs.Bounds.{IsCandidate, Shows, atom_of}
+use Rattle.ground_program.specs.Bounds.{IsCandidate, atom_of}
 use Rattle.clause_store.specs.declared.literal.Lit.{Lit}
-use Rattle.clause_store.specs.Clause.{HasNoVariableTwice, HoldsIn, IsOver, IsTrueIn, variable}
+use Rattle.clause_store.specs.Clause.{HasNoVariableTwice, IsOver, IsTrueIn, variable}
 use Rattle.clause_store.proofs.LiteralLemmas.{first_or_later, lit_of_code}
 use Rattle.normal_program.specs.declared.normal.Normal.{Normal}
-use Rattle.normal_program.specs.Normal.{IsAnswerSetN, extension, greatest_body_var}
+use Rattle.normal_program.specs.Normal.{extension, greatest_body_var}
 use Rattle.normal_program.specs.Limit.{IsNormal}
 use Rattle.normal_program.proofs.lemmas.Base.TruthLemmas.{variable-negative, variable-positive}
 use Rattle.coherence_test.specs.declared.asked.Core.{Core}
-use Rattle.coherence_test.specs.Asked.{Answers as Meets, IsCoreFor, MeetsCore}
+use Rattle.coherence_test.specs.Asked.{Answers as Meets, IsCoreFor}
 use Rattle.worker_jobs.specs.declared.job.Job.TheVariants.{Reduce}
 use Rattle.worker_jobs.specs.declared.gain.RoundEnd.TheVariants.{Done}
 use Rattle.worker_jobs.specs.Gain.{HasGained, IsProvedCandidate}
 use Rattle.worker_jobs.specs.Job.{AreCandidates, test_literal}
 use Rattle.worker_jobs.proofs.CandidateLemmas.{atom_of_candidate}
-use Rattle.worker_strategies.specs.Disjunction.{asked_for, disjunction_of, has_literal, with_literal}
+use Rattle.worker_strategies.specs.Disjunction.{asked_for, disjunction_of, has_literal}
+use Rattle.worker_strategies.specs.Disjunction.{with_literal}
 use Rattle.worker_strategies.specs.Outcome.{IsAnswer}
 use Rattle.worker_strategies.proofs.ChunkLemmas.{HasCandidateOf, any_here, has_by, has_there}
 use Rattle.worker_strategies.proofs.GainLemmas.{gained_by_set, incoherent_is_true, no_answer_set}
@@ -65,7 +68,8 @@ abbrev IsOnSide : Mode → Lit → Type 0
 IsOnSide Cautious lit = lit.0 ≡ 2 * variable lit + 1
 IsOnSide Brave lit = lit.0 ≡ 2 * variable lit
 
-side_of : (names : List Named) (mode : Mode) (cand : ℕ) → IsOnSide mode (test_literal names mode cand)
+side_of : (names : List Named) (mode : Mode) (cand : ℕ)
+    → IsOnSide mode (test_literal names mode cand)
 side_of names Cautious cand =
     let is = variable-negative (atom_of names cand) in omega (arith, is)
 side_of names Brave cand =

@@ -1,17 +1,15 @@
 -- What a round leaves.
-use Rattle.std.proofs.Common.{◌≡◌, ◌≢◌, ◌+◌, ◌-◌, ◌∙◌, ◌<◌, ◌≤◌, ◌⊎◌, ℕ, Bool, true, false, List, [], ◌∷◌}
-use Rattle.std.proofs.Common.{◌++◌, length, take, refl, sym, ap, subst, arith, inl, inr, cond}
+use Rattle.std.proofs.Common.{◌≡◌, ◌≢◌, ◌+◌, ◌-◌, ◌∙◌, ◌<◌, ℕ, Bool, true, false, List}
+use Rattle.std.proofs.Common.{[]}
+use Rattle.std.proofs.Common.{◌++◌, length, refl, sym, ap, subst, arith, inl, inr}
 use Rattle.std.proofs.Common.{Some, None, Option, length-append}
-use Rattle.std.specs.Prelude.{All, Contains, IfSome}
-use Rattle.ground_program.specs.declared.program.Mode.{Mode}
+use Rattle.std.specs.Prelude.{IfSome}
 use Rattle.clause_store.specs.declared.literal.Lit.{Lit}
 use Rattle.clause_store.specs.Counted.{Counted}
 use Rattle.clause_store.specs.Entailment.{AreUnits}
 use Rattle.clause_store.specs.History.{counted_clauses}
-use Rattle.clause_store.specs.Laws.{AreMoreClauses}
 use Rattle.normal_program.specs.declared.normal.Normal.{Normal}
 use Rattle.normal_program.specs.Clauses.{base_clauses}
-use Rattle.normal_program.specs.Limit.{IsNormal}
 use Rattle.assumption_engine.specs.Answer.{IsBelow, IsSliceOver}
 use Rattle.coherence_test.specs.Selectors.{AreUsed}
 use Rattle.coherence_test.specs.Testing.{Testing, opened}
@@ -179,7 +177,8 @@ module _ (old : Desk) (ready : IsReady old) (job : Job) (began : List (List Lit)
   begin_same same (Reduce cands) = sym same
   begin_same same (Chunk cands) = sym same
 
-  tester_same : (job : Job) (goes_on : Bool) → tester_for old job goes_on ≡ tester_for mid job goes_on
+  tester_same : (job : Job) (goes_on : Bool)
+      → tester_for old job goes_on ≡ tester_for mid job goes_on
   tester_same Idle goes_on = refl
   tester_same Coherence goes_on = refl
   tester_same (Single cand) goes_on = refl

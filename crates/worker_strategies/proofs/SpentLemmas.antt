@@ -1,30 +1,28 @@
 -- What the units of a test are when its budget is used up.
-use Rattle.std.proofs.Common.{◌≡◌, ◌+◌, ◌∙◌, ℕ, Bool, List, [], ◌∷◌, ◌++◌, length, take}
+use Rattle.std.proofs.Common.{◌≡◌, ◌+◌, ℕ, List, [], ◌++◌, length}
 use Rattle.std.proofs.Common.{refl, sym, ap, subst, arith, inl, inr, Some, None, Option, get_or}
-use Rattle.std.specs.Prelude.{All, Contains, IfSome}
+use Rattle.std.specs.Prelude.{All, Contains}
 use Rattle.std.proofs.lemmas.List.Elements.{All-append, All-weaker, All-contains_itself}
 use Rattle.std.proofs.lemmas.List.Elements.{Contains-append_left, Contains-append_right}
-use Rattle.ground_program.specs.declared.program.Mode.{Mode}
 use Rattle.clause_store.specs.declared.literal.Lit.{Lit}
-use Rattle.clause_store.specs.Clause.{IsOver, IsTrueIn}
+use Rattle.clause_store.specs.Clause.{IsOver}
 use Rattle.clause_store.specs.Counted.{Counted}
 use Rattle.clause_store.specs.Entailment.{AreUnits}
-use Rattle.clause_store.specs.History.{added_clauses, counted_clauses, given_clauses}
+use Rattle.clause_store.specs.History.{counted_clauses, given_clauses}
 use Rattle.clause_store.specs.History.{AreRefutedWith}
 use Rattle.clause_store.specs.Laws.{AreMoreClauses}
 use Rattle.clause_store.proofs.lemmas.Units.HistoryLemmas.{history_has_units, history_is_refuted}
 use Rattle.clause_store.proofs.lemmas.Units.HistoryLemmas.{refuted_of_kind}
 use Rattle.clause_store.proofs.lemmas.Units.UnitLemmas.{units_among_fewer}
 use Rattle.normal_program.specs.declared.normal.Normal.{Normal}
-use Rattle.normal_program.specs.declared.spent.SpentTest.{SpentTest}
-use Rattle.normal_program.specs.Normal.{extension, greatest_body_var}
+use Rattle.normal_program.specs.Normal.{greatest_body_var}
 use Rattle.normal_program.specs.Clauses.{base_clauses, IsEntailed}
 use Rattle.normal_program.specs.Loop.{IsLocal}
-use Rattle.normal_program.specs.Spent.{IsGrounded, IsSpentTest, IsWideSpentTest, selector_clauses}
+use Rattle.normal_program.specs.Spent.{IsSpentTest, IsWideSpentTest, selector_clauses}
 use Rattle.normal_program.proofs.lemmas.Entailed.ChoiceLemmas.{entailed-without_selectors}
 use Rattle.coherence_test.specs.Selectors.{IsInUse, MayAdd}
 use Rattle.coherence_test.specs.Testing.{Testing, used_by}
-use Rattle.worker_strategies.specs.Testing.{HasTested, IsFrontOf, IsTestOf}
+use Rattle.worker_strategies.specs.Testing.{IsFrontOf, IsTestOf}
 use Rattle.worker_strategies.proofs.TestLemmas.{front_among, tested_among}
 
 module _ (normal : Normal) (any : Option (List Lit)) (begin : List (List Lit)) (tester : Testing)

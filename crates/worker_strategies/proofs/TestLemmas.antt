@@ -1,33 +1,27 @@
 -- How a test goes on, and what its units are.
-use Rattle.std.proofs.Common.{◌≡◌, ◌+◌, ◌∙◌, ◌≤◌, ℕ, Bool, true, false, List, [], ◌∷◌, ◌++◌, length}
-use Rattle.std.proofs.Common.{refl, sym, ap, subst, inl, inr, arith, Some, None, Option, add-zero}
-use Rattle.std.proofs.Common.{append_assoc, append-nil, take, get_or}
-use Rattle.std.specs.Prelude.{All, Contains, IfSome}
+use Rattle.std.proofs.Common.{◌≡◌, ◌∙◌, List, [], ◌∷◌, ◌++◌, length}
+use Rattle.std.proofs.Common.{refl, sym, ap, subst, inl, inr, arith, Some, None, Option}
+use Rattle.std.proofs.Common.{append_assoc, append-nil, take}
+use Rattle.std.specs.Prelude.{All, Contains}
 use Rattle.std.proofs.lemmas.List.Elements.{All-nil, All-cons, All-append, All-weaker}
 use Rattle.std.proofs.lemmas.List.Elements.{All-contains_itself, Contains-append_left}
 use Rattle.std.proofs.lemmas.List.Elements.{Contains-append_right, Contains-push}
 use Rattle.std.proofs.Math.Seq.{take-append_seam}
 use Rattle.clause_store.specs.declared.literal.Lit.{Lit}
-use Rattle.clause_store.specs.Clause.{IsOver}
 use Rattle.clause_store.specs.Counted.{Counted}
 use Rattle.clause_store.specs.Entailment.{AreUnits}
 use Rattle.clause_store.specs.History.{Added, given, counted, added_clauses, counted_clauses}
-use Rattle.clause_store.specs.History.{given_clauses, clause_of, AreRefutedWith, IsHistoryOf}
+use Rattle.clause_store.specs.History.{IsHistoryOf}
 use Rattle.clause_store.specs.HistoryLaws.{AreAddedTogether}
 use Rattle.clause_store.specs.Laws.{AreMoreClauses}
-use Rattle.clause_store.proofs.lemmas.Units.HistoryLemmas.{history_has_units, refuted_of_kind}
-use Rattle.clause_store.proofs.lemmas.Units.HistoryLemmas.{history_is_refuted, histories_add}
+use Rattle.clause_store.proofs.lemmas.Units.HistoryLemmas.{histories_add}
 use Rattle.clause_store.proofs.lemmas.Units.UnitLemmas.{units_among_fewer, units_split}
-use Rattle.normal_program.specs.declared.normal.Normal.{Normal}
-use Rattle.normal_program.specs.Normal.{greatest_body_var}
-use Rattle.normal_program.specs.Clauses.{base_clauses, IsEntailed}
-use Rattle.normal_program.specs.Loop.{IsLocal}
+use Rattle.normal_program.specs.Clauses.{IsEntailed}
 use Rattle.normal_program.specs.Spent.{selector_clauses}
-use Rattle.normal_program.proofs.lemmas.Entailed.ChoiceLemmas.{entailed-without_selectors}
 use Rattle.coherence_test.specs.Selectors.{AreUsed, IsInUse, MayAdd}
-use Rattle.coherence_test.specs.Testing.{HasAdded, HasCountedUnits, Testing, opened, used_by}
+use Rattle.coherence_test.specs.Testing.{Testing, used_by}
 use Rattle.coherence_test.proofs.SoundLemmas.{history_then}
-use Rattle.worker_strategies.specs.Testing.{HasTested, IsFrontOf, IsTesterOf, IsTestOf}
+use Rattle.worker_strategies.specs.Testing.{HasTested, IsFrontOf}
 
 -- ---- fronts
 

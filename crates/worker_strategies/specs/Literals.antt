@@ -1,5 +1,6 @@
 -- Which candidates a clause names, and tables of literals.
-use Rattle.std.specs.Prelude.{◌≡◌, ◌<◌, ◌==◌, ◌&&◌, ◌∷◌, ◌++◌, [], ℕ, Bool, false, not, List, length}
+use Rattle.std.specs.Prelude.{◌≡◌, ◌<◌, ◌==◌, ◌&&◌, ◌∷◌, ◌++◌, [], ℕ, Bool, false, not, List}
+use Rattle.std.specs.Prelude.{length}
 use Rattle.std.specs.Prelude.{fold, if◌then◌else◌, map, slice_index_or}
 use Rattle.ground_program.specs.declared.program.Mode.{Mode}
 use Rattle.ground_program.specs.declared.program.Named.{Named}

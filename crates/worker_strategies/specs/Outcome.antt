@@ -1,5 +1,5 @@
 -- What came of the test of a job.
-use Rattle.std.specs.Prelude.{◌≡◌, ℕ, Bool, List, length, IfSome, Option, ⊤}
+use Rattle.std.specs.Prelude.{◌≡◌, ℕ, Bool, List, length, IfSome, ⊤}
 use Rattle.ground_program.specs.declared.program.Mode.{Mode}
 use Rattle.clause_store.specs.declared.literal.Lit.{Lit}
 use Rattle.clause_store.specs.Clause.{IsTrueIn}
@@ -29,7 +29,8 @@ pub record IsAnswer (normal : Normal) (mode : Mode) (job : Job) (gain : Gain) : 
   pub answers : Answers normal.names mode job gain
   pub done : gain.ended ≡ Done
 
--- the test whether a set is minimal used up its limit, and the set makes the literal of the job true
+-- the test whether a set is minimal used up its limit, and the set makes the literal of the job
+-- true
 pub record IsSpentSet (normal : Normal) (mode : Mode) (job : Job) (limit : ℕ) (set : List Bool)
     (units : List (List Lit)) : Type 0 where
   pub within : IsSpentWithin normal set units

@@ -1,15 +1,13 @@
 -- What rounds keep. No public clause cites this module.
-use Rattle.std.specs.Prelude.{◌≡◌, ◌≢◌, ◌≤◌, ◌<◌, ◌⊎◌, ℕ, Bool, true, false, List, [], ◌∷◌, length}
+use Rattle.std.specs.Prelude.{◌≡◌, ◌≢◌, ◌≤◌, ◌<◌, ◌⊎◌, ℕ, Bool, true, false, List, [], length}
 use Rattle.std.specs.Prelude.{IfSome, Option, None, Some, cond}
 use Rattle.ground_program.specs.declared.program.Mode.{Mode}
-use Rattle.ground_program.specs.declared.program.Named.{Named}
 use Rattle.clause_store.specs.declared.literal.Lit.{Lit}
 use Rattle.clause_store.specs.Counted.{Counted}
 use Rattle.normal_program.specs.declared.normal.Normal.{Normal}
 use Rattle.normal_program.specs.declared.spent.SpentTest.{SpentTest}
 use Rattle.normal_program.specs.Clauses.{base_clauses}
 use Rattle.normal_program.specs.Limit.{IsNormal}
-use Rattle.coherence_test.specs.declared.asked.Asked.{Asked}
 use Rattle.coherence_test.specs.Testing.{Testing, opened}
 use Rattle.worker_jobs.specs.declared.job.Job.{Job}
 use Rattle.worker_jobs.specs.declared.job.Job.TheVariants.{Idle, Coherence, Single, Reduce, Chunk}
@@ -26,8 +24,9 @@ use Rattle.worker_strategies.specs.Disjunction.{disjunction_for, literal_for}
 use Rattle.worker_strategies.specs.Testing.{IsFrontOf, IsTesterOf, IsTestOf, or_opened}
 use Rattle.worker_strategies.specs.Working.{KeptTest, Working}
 
--- what contracts see of rounds: beside what a worker shows, the completed store, the main tester and
--- that of the first test for coherence, and the clauses of the main one when the present test began
+-- what contracts see of rounds: beside what a worker shows, the completed store, the main tester
+-- and that of the first test for coherence, and the clauses of the main one when the present test
+-- began
 pub record Desk : Type 0 where
   pub normal : Normal
   pub mode : Mode

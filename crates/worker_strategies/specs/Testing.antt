@@ -1,5 +1,5 @@
 -- What tests do to a tester.
-use Rattle.std.specs.Prelude.{◌≡◌, ◌<◌, ◌⊎◌, ℕ, false, List, [], ◌++◌, length, All, Contains}
+use Rattle.std.specs.Prelude.{◌≡◌, ◌<◌, ◌⊎◌, false, List, [], ◌++◌, length, All, Contains}
 use Rattle.std.specs.Prelude.{IfSome, Option, None, Some}
 use Rattle.clause_store.specs.declared.literal.Lit.{Lit}
 use Rattle.clause_store.specs.Counted.{Counted}
@@ -12,8 +12,8 @@ use Rattle.coherence_test.specs.Selectors.{AreUsed, IsInUse}
 use Rattle.coherence_test.specs.Testing.{HasAdded, Testing, opened, selectors, used_by}
 
 -- what tests of a disjunction, or of none, did to their tester: clauses were added, and those of
--- them that were counted are entailed with the disjunctions, have of selectors only the negations of
--- some in use, and are worth counting beside the clauses of selectors too
+-- them that were counted are entailed with the disjunctions, have of selectors only the negations
+-- of some in use, and are worth counting beside the clauses of selectors too
 pub record HasTested (any : Option (List Lit)) (old new : Testing) (before after : Counted) :
     Type 0 where
   pub added : HasAdded old.normal new.disjunctions old.clauses new.clauses before after

@@ -17,7 +17,7 @@ use Rattle.worker_jobs.specs.declared.gain.Gain.{Gain}
 use Rattle.worker_jobs.specs.declared.gain.RoundEnd.{RoundEnd}
 use Rattle.worker_jobs.specs.declared.gain.RoundEnd.TheVariants.{Done, Settled, Paused, Spent}
 use Rattle.worker_jobs.specs.declared.gain.RoundEnd.TheVariants.{SpentWide, NoMemory}
-use Rattle.worker_jobs.specs.Gain.{Answers, IsTrueGain}
+use Rattle.worker_jobs.specs.Gain.{Answers}
 use Rattle.worker_jobs.specs.Spent.{IsSpentIn, IsSpentWideIn}
 use Rattle.worker_strategies.specs.Disjunction.{disjunction_for}
 use Rattle.worker_strategies.specs.Testing.{IsFrontOf}
@@ -112,8 +112,8 @@ pub record IsPaused (old : Working) (job : Job) (slice : ℕ) (new : Working) : 
   pub all : length units ≡ slice
   pub below : length before + length units < old.budget
 
--- the units of a worker's own test of one candidate: they are worth counting beside the clauses that
--- there were when it began, and they stand among its clauses
+-- the units of a worker's own test of one candidate: they are worth counting beside the clauses
+-- that there were when it began, and they stand among its clauses
 pub record AreOwnUnits (worker : Working) (units : List (List Lit)) : Type 0 where
   pub are : AreUnits (take worker.began worker.clauses) units
   pub among : AreMoreClauses units worker.clauses

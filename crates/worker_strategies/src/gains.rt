@@ -1,5 +1,5 @@
 // What a round gained.
-ghost use Rattle.std.specs.Prelude.{◌≡◌, ◌∷◌, [], false, None, Some, IfOk};
+ghost use Rattle.std.specs.Prelude.{◌≡◌, ◌∷◌, [], false, true, None, Some, IfOk};
 ghost use Rattle.worker_strategies.specs.Rounds.{nothing_gained};
 
 use ground_program::{Atoms, Set, Sets};
@@ -30,6 +30,20 @@ pub(crate) fn shown(alloc: Global, set: Set) -> Result<Gain, NoMemory>
 {
     let mut gain = nothing(RoundEnd::Done);
     gain.sets.push(alloc, set)?;
+    Ok(gain)
+}
+
+/// An answer set, by which the program is coherent.
+pub(crate) fn coherent(alloc: Global, set: Set) -> Result<Gain, NoMemory>
+    ensures { IfOk result (λ it. it ≡ record {
+      sets = set ∷ [];
+      proved = [];
+      coherent = Some true;
+      ended = RoundEnd.Done;
+    }) }
+{
+    let mut gain = shown(alloc, set)?;
+    gain.coherent = Some(true);
     Ok(gain)
 }
 

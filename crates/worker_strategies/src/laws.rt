@@ -32,7 +32,8 @@ pub fn chunk_is_answered()
     ensures halves { ChunkHalves }
 {}
 
-/// A smaller chunk is one too (`over`), and what comes of its test comes of the whole one (`comes`).
+/// A smaller chunk is one too (`over`), and what comes of its test comes of the whole one
+/// (`comes`).
 pub fn part_answers()
     ensures over { PartIsOver }
     ensures comes { PartAnswers }
@@ -60,8 +61,8 @@ pub fn spent_is()
     ensures grounded { CoherenceIsGrounded }
 {}
 
-/// What begins, tests and ends a round leaves what is ready for the next one, gains what is true, and
-/// does what a round does.
+/// What begins, tests and ends a round leaves what is ready for the next one, gains what is true,
+/// and does what a round does.
 pub fn round_is()
     ensures { RoundsAre }
 {}

@@ -11,7 +11,9 @@ mod telling;
 
 pub use chunks::Step;
 pub use kept::{Begun, Kept};
-pub use laws::{chunk_is_answered, coherence_is_answered, disjunction_is_of, part_answers};
-pub use laws::{reduce_is_answered, round_is, spent_is, tests_compose};
+pub use laws::{
+    chunk_is_answered, coherence_is_answered, disjunction_is_of, part_answers, reduce_is_answered,
+    round_is, spent_is, tests_compose,
+};
 pub use outcome::Outcome;
-pub use telling::single_told;
+pub use telling::{coherence_told, reduce_told, single_told};

@@ -1,4 +1,4 @@
-use Rattle.std.proofs.Common.{[], ap, arith, subst, sym}
+use Rattle.std.proofs.Common.{[], subst, sym}
 use Rattle.std.proofs.lemmas.List.Elements.{All-head}
 use Rattle.clause_store.specs.Clause.{IsTrueIn}
 use Rattle.normal_program.specs.Normal.{extension}
@@ -14,14 +14,16 @@ pub returns-in_ok-gain-in-Found : goal.returns-in_ok-gain-in-Found
 returns-in_ok-gain-in-Found c normal mode is job says stop after at = (
   subst (IsAnswer normal mode (Single c.args.cand)) (sym c.in_ok-gain-in-Found.ensures)
       (single_found normal mode c.args.cand is job c.in-Found.set
-      (subst (IsTested normal (asked_for normal.names mode (Single c.args.cand))) c.in-Found.is says)),
+      (subst (IsTested normal (asked_for normal.names mode (Single c.args.cand)))
+      c.in-Found.is says)),
   subst (IsTestedAt stop after) c.in-Found.is at,
 )
 
 pub returns-in_ok-gain-in-Core : goal.returns-in_ok-gain-in-Core
 returns-in_ok-gain-in-Core c normal mode is job says stop after at = (
   c.in_ok-gain-in-Core.ensures normal mode is job
-      (subst (IsTested normal (asked_for normal.names mode (Single c.args.cand))) c.in-Core.is says),
+      (subst (IsTested normal (asked_for normal.names mode (Single c.args.cand)))
+      c.in-Core.is says),
   subst (IsTestedAt stop after) c.in-Core.is at,
 )
 
@@ -36,7 +38,8 @@ returns-in-Spent c normal mode is job says stop after at =
 pub returns-in-SpentInside : goal.returns-in-SpentInside
 returns-in-SpentInside c normal mode is job says stop after at =
     let spent =
-    subst (IsTested normal (asked_for normal.names mode (Single c.args.cand))) c.in-SpentInside.is says in
+    subst (IsTested normal (asked_for normal.names mode (Single c.args.cand)))
+    c.in-SpentInside.is says in
     let counted = subst (IsTestedAt stop after) c.in-SpentInside.is at in (
       tt,
       record {
