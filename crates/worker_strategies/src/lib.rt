@@ -1,5 +1,5 @@
 //! What one worker does in rounds, each by one test whether some answer set shows what the job asks
-//! about: the definitions, what an answer of the tester says of one candidate, and the laws.
+//! about: the definitions, what an answer of the tester says, and the laws.
 #![tactic(auto)]
 
 mod chunks;

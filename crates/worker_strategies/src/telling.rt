@@ -67,9 +67,9 @@ fn single_refuted(alloc: Global, cand: u32, core: &Core) -> Result<Gain, NoMemor
     Ok(proved(cands))
 }
 
-/// What an answer of a tester says of candidates whose disjunction was asked for: a set shows one of
-/// them, a core with the disjunction proves them all, and one without it says that there is no answer
-/// set. An error says that there was no memory, in the tester or here.
+/// What an answer of a tester says of candidates whose disjunction was asked for: a set shows one
+/// of them, a core with the disjunction proves them all, and one without it says that there is no
+/// answer set. An error says that there was no memory, in the tester or here.
 pub fn reduce_told(alloc: Global, cands: &Atoms, tested: Tested) -> Result<Outcome, NoMemory>
     ensures { IfOk result (λ it. (normal : Normal) (mode : Mode)
         → ComesOf normal mode (Job.Reduce cands.now) tested it) }
