@@ -4,16 +4,16 @@ ghost use Rattle.normal_program.specs.Limit.{IsNormal};
 ghost use Rattle.anytime_core.specs.Truth.{EnclosesN};
 ghost use Rattle.master_record.specs.Books.{opened, IsStrategy};
 ghost use Rattle.master_record.specs.Rounds.{newcomer};
-ghost use Rattle.master_record.specs.Verdicts.{IsVerdict};
+ghost use Rattle.master_record.specs.Verdicts.{IsVerdict, AreSpent};
 ghost use Rattle.master_record.specs.Sound.{IsSound};
 
 use crate::candidates::Candidates;
-use crate::own::OwnTest;
+use crate::own::{OwnTest, only_test, open_tests};
 use crate::verdict::Verdict;
 use crate::worker::Worker;
 use ground_program::{Mode, Pair};
 use item_list::NoMemory;
-use normal_program::{Normal, SpentTest, normal_form_is_in_range};
+use normal_program::{Normal, SpentTest, Tests, normal_form_is_in_range};
 use std::alloc::Global;
 use std::marker::Model;
 use worker_jobs::Strategy;
@@ -139,6 +139,17 @@ impl<'a> Master<'a> {
         } else {
             Verdict::Running
         }
+    }
+
+    /// The tests on which a Partial verdict rests: the own tests of the open candidates, ascending,
+    /// or the test of coherence where no answer set was given.
+    pub fn into_spent(self) -> Tests
+        ensures { AreSpent self.entry result }
+    {
+        if self.answers == 0 {
+            return only_test(self.coherence, self.room);
+        }
+        open_tests(self.candidates, self.own, self.room)
     }
 
     /// What is true of the record, as contracts know it then. It does nothing when it runs.
