@@ -1,0 +1,10 @@
+use Rattle.std.proofs.Common.{rules, arith}
+use Rattle.std.proofs.lemmas.Grind.{common_steps}
+use Rattle.master_record.proofs.candidates.next_left.Goals as goal
+
+pub returns-then-has : goal.returns-then-has
+returns-then-has c = record {
+  within = omega arith;
+  before = c.loop-place.invariant;
+  here = λ less. grind (arith, common_steps);
+}

@@ -1,0 +1,10 @@
+pub mod Course
+pub mod Rounds
+pub mod Books
+pub mod Settling
+pub mod Merging
+pub mod Jobs
+pub mod Verdicts
+pub mod Sound
+pub mod Told
+pub mod Laws
