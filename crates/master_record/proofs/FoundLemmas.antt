@@ -1,6 +1,8 @@
 -- Searches in sorted numbers, and least places.
-use Rattle.std.proofs.Common.{◌≡◌, ◌≢◌, ◌≤◌, ◌<◌, ◌+◌, ◌-◌, ℕ, zero, suc, Bool, true, false, not, List, []}
-use Rattle.std.proofs.Common.{◌∷◌, length, get_or, refl, sym, ap, subst, ◌∙◌, ⊎_elim, arith, true≢false}
+use Rattle.std.proofs.Common.{◌≡◌, ◌≢◌, ◌≤◌, ◌<◌, ◌+◌, ◌-◌, ℕ, zero, suc, Bool, true, false, not}
+use Rattle.std.proofs.Common.{List, []}
+use Rattle.std.proofs.Common.{◌∷◌, length, get_or, refl, sym, ap, subst, ◌∙◌, ⊎_elim, arith}
+use Rattle.std.proofs.Common.{true≢false}
 use Rattle.std.proofs.Common.{inl, inr, ◌⊎◌, Result, Ok, Err, nat_eq, eq-eqb, eqb-true, cond}
 use Rattle.std.specs.Prelude.{Contains, Any, IsTrue, ◌↔◌, is_ok, filter, Vec}
 use Rattle.std.specs.Ordering.{nat_cmp}
@@ -16,7 +18,8 @@ use Rattle.master_record.specs.Course.{IsOpenIn, IsLeast, is_open, is_open_at, i
 use Rattle.master_record.specs.Books.{Books, open_own}
 use Rattle.master_record.specs.Verdicts.{IsFinished, IsTested}
 use Rattle.master_record.specs.Sound.{IsLeftAt}
-use Rattle.master_record.proofs.CourseLemmas.{and_left, and_right, and_both, not_true, true_not, not_so}
+use Rattle.master_record.proofs.CourseLemmas.{and_left, and_right, and_both, not_true, true_not}
+use Rattle.master_record.proofs.CourseLemmas.{not_so}
 
 -- a number is found just where it is there
 pub found_iff : (xs : List ℕ) (x : ℕ) (r : Result ℕ ℕ) (b : Bool) → b ≡ is_ok r

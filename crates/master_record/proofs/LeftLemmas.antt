@@ -1,6 +1,8 @@
 -- What is left is unsettled without a test.
-use Rattle.std.proofs.Common.{◌≡◌, ◌≢◌, ◌≤◌, ◌<◌, ◌+◌, ◌-◌, ℕ, zero, suc, Bool, true, false, List, []}
-use Rattle.std.proofs.Common.{◌∷◌, length, get_or, refl, sym, ap, subst, ◌∙◌, ⊎_elim, arith, true≢false}
+use Rattle.std.proofs.Common.{◌≡◌, ◌≢◌, ◌≤◌, ◌<◌, ◌+◌, ◌-◌, ℕ, zero, suc, Bool, true, false, List}
+use Rattle.std.proofs.Common.{[]}
+use Rattle.std.proofs.Common.{◌∷◌, length, get_or, refl, sym, ap, subst, ◌∙◌, ⊎_elim, arith}
+use Rattle.std.proofs.Common.{true≢false}
 use Rattle.std.proofs.Common.{inl, inr, ◌⊎◌, nat_eq, eq-eqb, eqb-true, cond}
 use Rattle.std.specs.Prelude.{Any, IsTrue, ◌↔◌, filter}
 use Rattle.std.proofs.lemmas.Bool.{cases_lt, cases_eq}

@@ -1,5 +1,6 @@
 -- A merge put together from its steps.
-use Rattle.std.proofs.Common.{◌≡◌, ◌≢◌, ◌≤◌, ◌<◌, ◌+◌, ◌-◌, ◌^◌, ◌||◌, ℕ, Bool, true, false, List, [], ◌∷◌}
+use Rattle.std.proofs.Common.{◌≡◌, ◌≢◌, ◌≤◌, ◌<◌, ◌+◌, ◌-◌, ◌^◌, ◌||◌, ℕ, Bool, true, false, List}
+use Rattle.std.proofs.Common.{[], ◌∷◌}
 use Rattle.std.proofs.Common.{◌++◌, length, refl, sym, ap, subst, ◌∙◌, arith, Option, Some, None}
 use Rattle.std.specs.Prelude.{All}
 use Rattle.std.proofs.lemmas.List.Elements.{All-append}
@@ -12,7 +13,8 @@ use Rattle.master_record.specs.Settling.{AreAnswers, AreSettled}
 use Rattle.master_record.specs.Merging.{HasMerged, IsTrueLine, settled_by, round_ended, merged}
 use Rattle.master_record.specs.Merging.{says_incoherent}
 use Rattle.master_record.specs.Books.{Books}
-use Rattle.master_record.proofs.TrueLemmas.{GivesSet, give_sets, true_answers, true_settled, coherent_by}
+use Rattle.master_record.proofs.TrueLemmas.{GivesSet, give_sets, true_answers, true_settled}
+use Rattle.master_record.proofs.TrueLemmas.{coherent_by}
 
 or_false : (b : Bool) → (b || false) ≡ b
 or_false true = refl

@@ -1,6 +1,8 @@
 -- The lines of candidates one after the other.
-use Rattle.std.proofs.Common.{◌≡◌, ◌≤◌, ◌<◌, ◌+◌, ◌-◌, ◌⊎◌, ℕ, suc, Bool, true, List, [], ◌∷◌, ◌++◌, length}
-use Rattle.std.proofs.Common.{inl, inr, sym, ap, subst, ◌∙◌, ⊎_elim, arith, get_or, refl, length-append}
+use Rattle.std.proofs.Common.{◌≡◌, ◌≤◌, ◌<◌, ◌+◌, ◌-◌, ◌⊎◌, ℕ, suc, Bool, true, List, [], ◌∷◌, ◌++◌}
+use Rattle.std.proofs.Common.{length}
+use Rattle.std.proofs.Common.{inl, inr, sym, ap, subst, ◌∙◌, ⊎_elim, arith, get_or, refl}
+use Rattle.std.proofs.Common.{length-append}
 use Rattle.std.specs.Prelude.{All, Any, AllPairs, Contains}
 use Rattle.std.proofs.lemmas.List.Quantifiers.{Any-push}
 use Rattle.std.proofs.lemmas.List.Elements.{All-push, Contains-push, Contains-push_cases}
@@ -14,7 +16,8 @@ use Rattle.report.specs.declared.lines.Line.{Line}
 use Rattle.report.specs.declared.lines.Line.TheVariants.{Answer}
 use Rattle.report.proofs.LegalLemmas.{Any-before}
 use Rattle.master_record.specs.Course.{IsOpenIn}
-use Rattle.master_record.specs.Settling.{IsGainedLine, IsDue, cand_of, IsTold, IsShownIn, AreAnswers}
+use Rattle.master_record.specs.Settling.{IsGainedLine, IsDue, cand_of, IsTold, IsShownIn}
+use Rattle.master_record.specs.Settling.{AreAnswers}
 use Rattle.master_record.specs.Settling.{IsNews, IsShownLine, IsProvedLine, AreSettledAmong}
 
 -- the lines so far, of the candidates so far: the last that has one is known

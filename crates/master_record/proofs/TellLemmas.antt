@@ -1,6 +1,8 @@
 -- The lines of a record may begin a report.
-use Rattle.std.proofs.Common.{◌≡◌, ◌≢◌, ◌≤◌, ◌<◌, ◌+◌, ◌-◌, ◌⊎◌, ℕ, Bool, true, false, cond, List, []}
-use Rattle.std.proofs.Common.{◌∷◌, ◌++◌, length, get_or, set, refl, sym, ap, subst, ◌∙◌, ⊎_elim, arith}
+use Rattle.std.proofs.Common.{◌≡◌, ◌≢◌, ◌≤◌, ◌<◌, ◌+◌, ◌-◌, ◌⊎◌, ℕ, Bool, true, false, cond, List}
+use Rattle.std.proofs.Common.{[]}
+use Rattle.std.proofs.Common.{◌∷◌, ◌++◌, length, get_or, set, refl, sym, ap, subst, ◌∙◌, ⊎_elim}
+use Rattle.std.proofs.Common.{arith}
 use Rattle.std.proofs.Common.{inl, inr, length-set, true≢false, append-nil, not, ◌&&◌, append_assoc}
 use Rattle.std.specs.Prelude.{All, Any, count_by, ◌↔◌}
 use Rattle.std.specs.List.{filter_map}
@@ -25,7 +27,8 @@ use Rattle.report.proofs.LegalLemmas.{Any-before, Any-last, so_far_then, so_far_
 use Rattle.master_record.specs.Course.{IsOpenIn, is_open, is_open_at, with_line}
 use Rattle.master_record.specs.Settling.{IsNews, ShowsOpenIn}
 use Rattle.master_record.specs.Told.{AreLegalN, sizes_of}
-use Rattle.master_record.proofs.CourseLemmas.{was_open, not_so, and_left, not_true, and_right, and_both}
+use Rattle.master_record.proofs.CourseLemmas.{was_open, not_so, and_left, not_true, and_right}
+use Rattle.master_record.proofs.CourseLemmas.{and_both}
 use Rattle.master_record.proofs.CourseLemmas.{true_not}
 
 -- what a truth value adds to a count

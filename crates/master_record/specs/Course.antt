@@ -1,5 +1,6 @@
 -- Which candidates are open, and the pair that lines make.
-use Rattle.std.specs.Prelude.{◌≡◌, ◌≤◌, ◌<◌, ◌-◌, ◌^◌, ◌&&◌, not, ℕ, Bool, true, false, List, length}
+use Rattle.std.specs.Prelude.{◌≡◌, ◌≤◌, ◌<◌, ◌-◌, ◌^◌, ◌&&◌, not, ℕ, Bool, true, false, List}
+use Rattle.std.specs.Prelude.{length}
 use Rattle.std.specs.Prelude.{fold, slice_index_or, slice_set, count_by}
 use Rattle.ground_program.specs.declared.pair.Pair.{Pair}
 use Rattle.ground_program.specs.declared.program.Named.{Named}

@@ -1,5 +1,6 @@
 -- Laws about the lines of a run. Each is a clause of a function in src/laws.rt.
-use Rattle.std.specs.Prelude.{◌≡◌, ◌≢◌, ◌≤◌, ◌<◌, ◌+◌, ◌-◌, ◌^◌, ℕ, Bool, true, false, List, [], ◌∷◌}
+use Rattle.std.specs.Prelude.{◌≡◌, ◌≢◌, ◌≤◌, ◌<◌, ◌+◌, ◌-◌, ◌^◌, ℕ, Bool, true, false, List, []}
+use Rattle.std.specs.Prelude.{◌∷◌}
 use Rattle.std.specs.Prelude.{◌++◌, length, All, AllPairs, fold, count_by, replicate, slice_set}
 use Rattle.std.specs.Prelude.{slice_index_or, IsPermutation, Vec, vec_len, vec_capacity}
 use Rattle.std.specs.declared.alloc.Global.{Global}
@@ -15,7 +16,8 @@ use Rattle.normal_program.specs.Normal.{IsNormalFormOf}
 use Rattle.normal_program.specs.Spent.{AreApart}
 use Rattle.anytime_core.specs.Truth.{EnclosesN, IsCoherent}
 use Rattle.report.specs.declared.lines.Line.{Line}
-use Rattle.report.specs.declared.lines.Line.TheVariants.{Answer, Sizes, Complete, Partial, Incoherent}
+use Rattle.report.specs.declared.lines.Line.TheVariants.{Answer, Sizes, Complete, Partial}
+use Rattle.report.specs.declared.lines.Line.TheVariants.{Incoherent}
 use Rattle.report.specs.declared.lines.Line.TheVariants.{Unknown}
 use Rattle.report.specs.Legal.{Extent, IsLegalReport, KeepsInside, EachWatched, EndsSized}
 use Rattle.report.specs.Legal.{all_sizes, is_in, is_out}

@@ -1,5 +1,6 @@
 -- The lines of a run so far, with PAIR lines between them, and what the record knows of them.
-use Rattle.std.specs.Prelude.{◌≡◌, ◌≢◌, ◌+◌, ◌-◌, ◌↔◌, ℕ, Bool, false, List, length, count_by, Some, All}
+use Rattle.std.specs.Prelude.{◌≡◌, ◌≢◌, ◌+◌, ◌-◌, ◌↔◌, ℕ, Bool, false, List, length, count_by, Some}
+use Rattle.std.specs.Prelude.{All}
 use Rattle.ground_program.specs.declared.program.Mode.{Mode}
 use Rattle.ground_program.specs.declared.program.Program.{Program}
 use Rattle.ground_program.specs.declared.pair.Pair.{Pair}
@@ -7,7 +8,8 @@ use Rattle.ground_program.specs.Bounds.{IsCandidate}
 use Rattle.normal_program.specs.declared.normal.Normal.{Normal}
 use Rattle.normal_program.specs.Normal.{IsNormalFormOf}
 use Rattle.report.specs.declared.lines.Line.{Line}
-use Rattle.report.specs.Legal.{IsLegalSoFar, IsSettled, IsShownBy, Extent, IsInside, all_sizes, last_of}
+use Rattle.report.specs.Legal.{IsLegalSoFar, IsSettled, IsShownBy, Extent, IsInside, all_sizes}
+use Rattle.report.specs.Legal.{last_of}
 use Rattle.report.specs.Legal.{is_answer, is_in, is_out}
 use Rattle.master_record.specs.Course.{is_open}
 use Rattle.master_record.specs.Books.{Books}

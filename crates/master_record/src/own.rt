@@ -1,5 +1,6 @@
 // The own tests of candidates.
-ghost use Rattle.std.specs.Prelude.{◌≡◌, ◌≤◌, ◌<◌, [], vec_len, vec_capacity, map, AllPairs, option_to_list};
+ghost use Rattle.std.specs.Prelude.{◌≡◌, ◌≤◌, ◌<◌, [], vec_len, vec_capacity, map, AllPairs};
+ghost use Rattle.std.specs.Prelude.{option_to_list};
 ghost use Rattle.std.specs.Prelude.{IsPermutation};
 ghost use Rattle.master_record.specs.Verdicts.{AreOwnTests};
 ghost use Rattle.master_record.specs.Sound.{AreDistinct, AreNumbered};

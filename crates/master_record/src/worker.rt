@@ -1,6 +1,7 @@
 // What is kept of a worker.
 ghost use Rattle.std.specs.Prelude.{◌≡◌, ◌↔◌, IsTrue, IfOk, Some};
-ghost use Rattle.master_record.specs.Rounds.{newcomer, mark_of, marked, with_job, follow, HasRoomFor};
+ghost use Rattle.master_record.specs.Rounds.{newcomer, mark_of, marked, with_job, follow};
+ghost use Rattle.master_record.specs.Rounds.{HasRoomFor};
 ghost use Rattle.master_record.specs.Jobs.{IsNewList, IsTaking};
 
 use ground_program::Atoms;
