@@ -1,7 +1,6 @@
 // The tests, by what they are about.
 mod again;
 mod at_once;
-mod client_at_once;
 mod facts;
 mod first_read;
 mod machine;

@@ -36,7 +36,7 @@ fn read_often(board: &Board, mut seat: BoardSeat, mut pair: Pair) -> Reading
 }
 
 /// Reports what an answer set shows.
-pub fn report(board: &Board, mut seat: BoardSeat, set: &Set) -> BoardSeat
+fn report(board: &Board, mut seat: BoardSeat, set: &Set) -> BoardSeat
     requires seat { IsSeatOf board.now seat }
     requires answer { IsAnswerSetN (normal_of board.now) set.now }
     ensures { IsSeatOf board.now result }
@@ -82,7 +82,7 @@ fn learn(board: &Board, reading: Reading, noted: BoardSeat) -> Pair
 
 /// Whether a pair has what the answer set of 2 and 4 shows: candidate 2 as outside in cautious mode,
 /// and the others as inside in brave mode.
-pub fn has_what_is_shown(mode: Mode, pair: &Pair) -> bool {
+fn has_what_is_shown(mode: Mode, pair: &Pair) -> bool {
     let lower = pair.lower.as_slice();
     let upper = pair.upper.as_slice();
     match mode {
