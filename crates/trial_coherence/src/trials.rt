@@ -7,7 +7,6 @@ mod founding_points;
 mod founding_scene;
 mod handing;
 mod inside;
-mod openings;
 mod plain_founding;
 mod questions;
 mod recipes;

@@ -44,9 +44,8 @@ impl<'a> Scene<'a> {
     ) -> Result<Option<Scene<'a>>, NoMemory>
         requires normal { IsNormal normal.now }
         requires form { IsNormalFormOf normal.now program.now }
-        ensures ready { IfOk result (λ it.
+        ensures { IfOk result (λ it.
             IfSome it (λ scene. IsReady scene.program.now scene.normal.now scene.tester)) }
-        ensures same { IfOk result (λ it. IfSome it (λ scene. scene.normal ≡ normal)) }
     {
         if program.atoms >= 16 {
             return Ok(None);
