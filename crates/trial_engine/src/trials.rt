@@ -4,7 +4,6 @@ mod asking;
 mod clauses;
 mod counting;
 mod every_set;
-mod following;
 mod listed;
 mod memory;
 mod propagation;

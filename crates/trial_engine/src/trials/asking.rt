@@ -101,7 +101,7 @@ pub fn asks(
 }
 
 /// Which answer it is.
-pub fn kind_of(answer: &Answer) -> Kind {
+fn kind_of(answer: &Answer) -> Kind {
     match answer {
         Answer::Model => Kind::Model,
         Answer::Core(_) => Kind::Core,

@@ -43,12 +43,7 @@ fn put_triples(
 }
 
 /// An engine with 3 clauses for each of its variables, and two of 1 to 4 literals.
-pub fn scene_of(
-    alloc: Global,
-    vars: u8,
-    manner: Manner,
-    draws: &mut Draws,
-) -> Result<Scene, NoMemory> {
+fn scene_of(alloc: Global, vars: u8, manner: Manner, draws: &mut Draws) -> Result<Scene, NoMemory> {
     let count = u32::from(vars) * 3;
     let own = draws.below(count + 1);
     let mut base = random_clauses(alloc, vars, 1, draws)?;

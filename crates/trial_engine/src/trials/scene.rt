@@ -130,11 +130,6 @@ impl Scene {
         self.engine.prefer(lits);
     }
 
-    /// Lets variables be decided in the order of another engine, and as they were last there.
-    pub fn take_after(&mut self, alloc: Global, other: &Scene) -> Result<(), NoMemory> {
-        self.engine.take_after(alloc, &other.engine)
-    }
-
     /// Whether an answer is one that all assignments bear out.
     pub fn is_right(&self, assumed: &[Lit], answer: &Answer) -> bool {
         is_right(self.engine.trail(), self.must.as_slice(), assumed, answer)
