@@ -17,3 +17,14 @@ pub mod OverLemmas
 pub mod ReportLemmas
 pub mod ResizedLemmas
 pub mod CountLemmas
+pub mod ReadLemmas
+pub mod UntestedLemmas
+pub mod OpenListLemmas
+pub mod JobLemmas
+pub mod GivenLemmas
+pub mod FollowLemmas
+pub mod NewsLemmas
+pub mod ShownLemmas
+pub mod SoFarLemmas
+pub mod GainedLemmas
+pub mod EndedLemmas

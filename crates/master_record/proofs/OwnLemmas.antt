@@ -70,7 +70,7 @@ ascending_from own sorted distinct = λ i j d before within.
     omega arith
 
 -- an item that passes is among those that pass
-has_filtered : {X : Type 0} (p : X → Bool) (xs : List X) (x : X) → p x ≡ true → Contains xs x
+pub has_filtered : {X : Type 0} (p : X → Bool) (xs : List X) (x : X) → p x ≡ true → Contains xs x
     → Contains (filter p xs) x
 has_filtered {X = X} p xs x passes (k, within, is) =
     let (j, y, less, at, same) =

@@ -1,7 +1,7 @@
 -- What a call makes of the record.
-use Rattle.std.specs.Prelude.{◌≡◌, ◌+◌, ◌-◌, ◌==◌, ◌||◌, ℕ, Bool, true, false, List, [], ◌∷◌, ◌++◌}
-use Rattle.std.specs.Prelude.{length, Option, Some, None, slice_set, if◌then◌else◌, All, filter}
-use Rattle.std.specs.Prelude.{not, slice_index_or, ⊤}
+use Rattle.std.specs.Prelude.{◌≡◌, ◌<◌, ◌+◌, ◌-◌, ◌^◌, ◌==◌, ◌||◌, ℕ, Bool, true, false}
+use Rattle.std.specs.Prelude.{List, [], ◌∷◌, ◌++◌, length, Option, Some, slice_set}
+use Rattle.std.specs.Prelude.{if◌then◌else◌, All, filter, not, slice_index_or, ⊤}
 use Rattle.std.specs.List.{list_any}
 use Rattle.ground_program.specs.declared.pair.Pair.{Pair}
 use Rattle.ground_program.specs.declared.program.Mode.{Mode}
@@ -84,8 +84,18 @@ merged old worker gain answers lines =
       incoherent = old.incoherent || says_incoherent gain.coherent;
     }
 
--- a gain was merged: the new answer sets are given, and the open candidates settled that it shows or
--- proves
+-- the lines of a gain, so many of which give answer sets
+pub record AreGained (old : Books) (gain : Gain) (count : ℕ) (lines : List Line) : Type 0 where
+  pub answers : List Line
+  pub settled : List Line
+  pub parts : lines ≡ answers ++ settled
+  pub counted : count ≡ length answers
+  pub fits : old.answers + count < 2 ^ 32
+  pub given : AreAnswers old.normal.names old.mode old.pair old.answers gain.sets answers
+  pub gained : AreSettled old.normal.names old.mode old.pair answers gain.proved settled
+
+-- a gain was merged: the new answer sets are given, and the open candidates settled that it shows
+-- or proves
 pub record HasMerged (old : Books) (worker : ℕ) (gain : Gain) (lines : List Line) (new : Books) :
     Type 0 where
   pub answers : List Line

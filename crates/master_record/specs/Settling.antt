@@ -76,7 +76,6 @@ abbrev pub IsShownIn : List Named → Mode → List Line → ℕ → Type 0
 IsShownIn names mode answers cand = (by : ℕ) × IsShownBy names mode answers cand by
 
 -- a line tells of a candidate that it is shown or was proved
-
 pub record IsTold (names : List Named) (mode : Mode) (answers : List Line) (proved : List ℕ)
     (cand : ℕ) (line : Line) : Type 0 where
   pub about : cand_of line ≡ cand
@@ -94,6 +93,12 @@ pub record IsDue (names : List Named) (mode : Mode) (pair : Pair) (answers : Lis
     (proved : List ℕ) (cand : ℕ) : Type 0 where
   pub unsettled : IsOpenIn names pair cand
   pub gained : IsShownIn names mode answers cand ⊎ Contains proved cand
+
+-- a candidate is open, and a line tells of it that it is shown or was proved
+pub record IsDueLine (names : List Named) (mode : Mode) (pair : Pair) (answers : List Line)
+    (proved : List ℕ) (cand : ℕ) (line : Line) : Type 0 where
+  pub unsettled : IsOpenIn names pair cand
+  pub told : IsTold names mode answers proved cand line
 
 -- one line for each of these candidates that is due, ascending
 pub record AreSettledAmong (names : List Named) (mode : Mode) (pair : Pair) (answers : List Line)

@@ -1,10 +1,13 @@
 // Which candidates are settled, with their places and counts.
 ghost use Rattle.std.specs.Prelude.{◌≡◌, ◌≤◌, ◌<◌, ◌-◌, ◌^◌, ℕ, true, false, length, replicate};
-ghost use Rattle.std.specs.Prelude.{slice_set, slice_index_or, count_by, IfOk};
+ghost use Rattle.std.specs.Prelude.{slice_set, slice_index_or, count_by, IfOk, All, fold, filter};
+ghost use Rattle.std.specs.List.{range_with_len};
 ghost use Rattle.master_record.specs.Course.{is_open, is_open_at, is_left_at, IsLeast};
+ghost use Rattle.master_record.specs.Course.{IsLineOver, course_after};
 
 use ground_program::{Bits, Pair};
 use item_list::{List, NoMemory};
+use report::Line;
 use std::alloc::Global;
 use std::marker::Model;
 
@@ -119,10 +122,107 @@ impl Candidates {
         self.left.set(cand as usize - 1, false);
         self.least_left = next_left(&self.left, self.least_left);
     }
+
+    /// What these lines settle is settled.
+    pub(crate) fn settle(&mut self, lines: &[Line])
+        requires { All (IsLineOver (length self.old.left)) lines.now }
+        ensures { self.new ≡ fold course_after self.old lines.now }
+    {
+        for line in lines {
+            self.settle_by(line);
+        }
+    }
+
+    /// What this line settles is settled.
+    fn settle_by(&mut self, line: &Line)
+        requires { IsLineOver (length self.old.left) line.now }
+        ensures { self.new ≡ course_after self.old line.now }
+    {
+        match line {
+            Line::SettledIn { cand, by: _ } => self.put_in(*cand as usize - 1),
+            Line::SettledOut { cand, by: _ } => self.put_out(*cand as usize - 1),
+            _ => {}
+        }
+    }
+
+    /// The candidate at a place, from 0, is a consequence.
+    fn put_in(&mut self, place: usize)
+        requires { place < length self.old.left }
+        ensures { self.new ≡ record {
+          pair = record {
+            lower = slice_set self.old.pair.lower place true;
+            upper = self.old.pair.upper;
+          };
+          left = slice_set self.old.left place false;
+        } }
+    {
+        let count = self.left.len() as u32;
+        self.lower_size = raise(&mut self.pair.lower, self.lower_size, place);
+        self.left.set(place, false);
+        self.least_open = next_open(&self.pair, self.least_open, count);
+        self.least_left = next_left(&self.left, self.least_left);
+    }
+
+    /// The candidate at a place, from 0, is no consequence.
+    fn put_out(&mut self, place: usize)
+        requires { place < length self.old.left }
+        ensures { self.new ≡ record {
+          pair = record {
+            lower = self.old.pair.lower;
+            upper = slice_set self.old.pair.upper place false;
+          };
+          left = slice_set self.old.left place false;
+        } }
+    {
+        let count = self.left.len() as u32;
+        self.upper_size = clear(&mut self.pair.upper, self.upper_size, place);
+        self.left.set(place, false);
+        self.least_open = next_open(&self.pair, self.least_open, count);
+        self.least_left = next_left(&self.left, self.least_left);
+    }
+}
+
+/// The open candidates, ascending.
+pub(crate) fn open_list(alloc: Global, candidates: &Candidates) -> Result<Vec<u32>, NoMemory>
+    ensures { IfOk result (λ cands. cands.items ≡ filter (is_open candidates.now.pair)
+        (range_with_len 1 (length candidates.now.left))) }
+{
+    let mut cands = Vec::new(alloc);
+    for place in candidates.least_open()..candidates.count() {
+        if candidates.is_open(place + 1) {
+            cands.push(place + 1)?;
+        }
+    }
+    Ok(cands)
+}
+
+/// Makes a place true where so many are, and gives how many are true then.
+fn raise(bits: &mut Bits, size: u32, place: usize) -> u32
+    requires few { length bits.old < 2 ^ 31 }
+    requires size { size ≡ count_by (λ bit. bit) bits.old }
+    requires within { place < length bits.old }
+    ensures bits { bits.new ≡ slice_set bits.old place true }
+    ensures size { result ≡ count_by (λ bit. bit) bits.new }
+{
+    let had = has(bits, place);
+    bits.set(place, true);
+    if had { size } else { size + 1 }
+}
+
+/// Makes a place false where so many are true, and gives how many are true then.
+fn clear(bits: &mut Bits, size: u32, place: usize) -> u32
+    requires size { size ≡ count_by (λ bit. bit) bits.old }
+    requires within { place < length bits.old }
+    ensures bits { bits.new ≡ slice_set bits.old place false }
+    ensures size { result ≡ count_by (λ bit. bit) bits.new }
+{
+    let had = has(bits, place);
+    bits.set(place, false);
+    if had { size - 1 } else { size }
 }
 
 /// Whether a place is true. A place past the end isn't.
-fn has(bits: &Bits, place: usize) -> bool
+pub(crate) fn has(bits: &Bits, place: usize) -> bool
     ensures { result ≡ slice_index_or bits.now place false }
 {
     bits.as_slice().get(place).copied().unwrap_or(false)

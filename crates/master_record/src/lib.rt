@@ -2,11 +2,17 @@
 //! come.
 #![tactic(auto)]
 
+mod answers;
 mod candidates;
+mod giving;
+mod going;
+mod jobs;
 mod laws;
 mod master;
 mod merging;
 mod own;
+mod settling;
+mod spending;
 mod verdict;
 mod verdicts;
 mod worker;

@@ -5,8 +5,8 @@ ghost use Rattle.propagator.specs.Watched.{IsReady};
 
 use clause_store::{ClauseRef, Store, Trail};
 use item_list::NoMemory;
-use propagator::Watches;
 use std::alloc::Global;
+use watched_literals::Watches;
 
 /// Watches to which all clauses of a store are attached, over a trail with nothing assigned.
 pub fn attach_all(alloc: Global, store: &Store, trail: &Trail) -> Result<Watches, NoMemory>

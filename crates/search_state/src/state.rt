@@ -12,9 +12,9 @@ ghost use Rattle.search_state.specs.State.{decided, gone_back, opened};
 use crate::attaching::attach_all;
 use clause_store::{ClauseRef, Lit, Store, Trail, Value};
 use item_list::NoMemory;
-use propagator::{Watches, propagate};
 use std::alloc::Global;
 use std::marker::Model;
+use watched_literals::{Watches, propagate};
 
 /// Clauses, a trail of them, and watches that are ready for propagation.
 ///

@@ -1,14 +1,11 @@
 -- The chains of nodes: what stays of them when a node is written, and walks along them.
-use Rattle.std.proofs.Common.{◌≡◌, ◌≢◌, ◌≤◌, ◌<◌, ◌+◌, ◌⊎◌, ℕ, suc, eqb, cond, List, [], ◌∷◌, ◌++◌}
-use Rattle.std.proofs.Common.{length, length-append, length-set, get_or, get_or-set_same}
+use Rattle.std.proofs.Common.{◌≡◌, ◌≢◌, ◌≤◌, ◌<◌, ℕ, List, [], ◌∷◌, ◌++◌}
+use Rattle.std.proofs.Common.{length, length-append, length-set, get_or-set_same}
 use Rattle.std.proofs.Common.{get_or-set_other, refl, sym, ap, subst, ◌∙◌, arith, inl, inr, set}
-use Rattle.std.specs.Prelude.{⊤}
-use Rattle.std.proofs.lemmas.Bool.{cases_eq}
-use Rattle.std.proofs.lemmas.List.{get_or_append_left, get_or_push}
-use Rattle.clause_store.specs.declared.literal.Lit.{Lit}
+use Rattle.std.proofs.lemmas.List.{get_or_append_left}
 use Rattle.watched_literals.specs.declared.chains.Node.{Node}
-use Rattle.watched_literals.specs.Chains.{none, node_of, code_of, next_of, Avoids, IsAmong, IsLink}
-use Rattle.watched_literals.specs.Chains.{IsChain, HasAllOf, AreLinked, AreEach, IsWalk}
+use Rattle.watched_literals.specs.Chains.{node_of, code_of, next_of, Avoids, IsAmong}
+use Rattle.watched_literals.specs.Chains.{IsChain, AreEach}
 use Rattle.watched_literals.specs.Chains.{first_of_list, last_of_list}
 
 abbrev pub blank : Node

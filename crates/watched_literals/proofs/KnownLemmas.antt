@@ -1,13 +1,11 @@
 -- What the known assignments make true and false.
-use Rattle.std.proofs.Common.{◌≡◌, ◌≢◌, ◌≤◌, ◌<◌, ◌+◌, ℕ, zero, suc, Bool, true, false, cond, eqb}
-use Rattle.std.proofs.Common.{max}
+use Rattle.std.proofs.Common.{◌≡◌, ◌≢◌, ◌≤◌, ◌<◌, ℕ, zero, suc, Bool, cond, eqb}
 use Rattle.std.proofs.Common.{List, [], ◌∷◌, ◌++◌, length, length-append, get_or, map, Option, Some}
 use Rattle.std.proofs.Common.{None, refl, sym, ap, subst, ◌∙◌, arith, inl, inr}
-use Rattle.std.specs.Prelude.{All, Any, IsSomeAnd, find, option_map}
-use Rattle.std.proofs.lemmas.Bool.{cases_Bool, cases_lt, eqb-true, ne_eqb, eq-eqb}
+use Rattle.std.specs.Prelude.{Any, IsSomeAnd, find, option_map}
+use Rattle.std.proofs.lemmas.Bool.{cases_Bool, eqb-true, ne_eqb, eq-eqb}
 use Rattle.std.proofs.lemmas.Option.{same_Some}
 use Rattle.std.proofs.lemmas.List.{get_or_append_left, get_or-map, length-map, map-append}
-use Rattle.std.proofs.lemmas.List.{get_or_default}
 use Rattle.clause_store.specs.declared.literal.Lit.{Lit}
 use Rattle.clause_store.specs.declared.literal.Value.TheVariants.{Yes, No, Unset}
 use Rattle.clause_store.specs.declared.step.Step.{Step}
@@ -16,6 +14,7 @@ use Rattle.clause_store.specs.Laws.{IsAssignedBy}
 use Rattle.clause_store.specs.Trail.{Assigned, IsTrail, step_of, value_by, value_of, present_level}
 use Rattle.clause_store.specs.Standing.{Followed, as_followed}
 use Rattle.clause_store.proofs.LiteralLemmas.{lit_of_code}
+use Rattle.clause_store.proofs.StepLemmas.{step_of_unset, value_of_new}
 use Rattle.propagator.proofs.HoldLemmas.{assigned_yes}
 use Rattle.watched_literals.specs.Watching.{IsTrueBy}
 
@@ -23,7 +22,7 @@ abbrev no_step : Step
 no_step = record { lit = record { 0 = 0 }; reason = None; level = 0 }
 
 -- what is found is there
-find_here : {X : Type 0} (p : X → Bool) (xs : List X) (x : X) → find p xs ≡ Some x
+pub find_here : {X : Type 0} (p : X → Bool) (xs : List X) (x : X) → find p xs ≡ Some x
     → (k : ℕ) × (k < length xs) × (get_or xs k x ≡ x)
 find_here p [] x is = absurd (cc)
 find_here p (y ∷ xs) x is =
@@ -175,3 +174,10 @@ true_more steps added level lit is =
     (sym (map-append as_followed steps added))
     (any_left (λ (it : Followed). (it.lit ≡ lit) × (it.level ≤ level)) (map as_followed steps)
     (map as_followed added) is)
+
+-- a literal that is assigned is true
+pub newly_yes : (steps : List Step) (step : Step) → value_of steps step.lit ≡ Unset
+    → value_of (steps ++ step ∷ []) step.lit ≡ Yes
+newly_yes steps step unset =
+    value_of_new steps step step.lit (step_of_unset steps step.lit unset) refl
+    ∙ ap (λ b. cond b Yes No) (eq-eqb step.lit.0 step.lit.0 refl)

@@ -8,3 +8,9 @@ pub mod KnownLemmas
 pub mod WatchingLemmas
 pub mod MovedLemmas
 pub mod StandingLemmas
+pub mod SeatLemmas
+pub mod SeenLemmas
+pub mod RunLemmas
+pub mod QuietLemmas
+pub mod AgainLemmas
+pub mod ReadyLemmas

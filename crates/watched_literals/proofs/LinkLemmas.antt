@@ -1,5 +1,5 @@
 -- A node is put last and into the chain of its literal; and how long a walk can be.
-use Rattle.std.proofs.Common.{◌≡◌, ◌≢◌, ◌≤◌, ◌<◌, ◌+◌, ℕ, zero, suc, eqb, Bool, true, false, cond}
+use Rattle.std.proofs.Common.{◌≡◌, ◌≢◌, ◌≤◌, ◌<◌, ◌+◌, ℕ, zero, suc, eqb, Bool, true, false}
 use Rattle.std.proofs.Common.{List, [], ◌∷◌, ◌++◌, length, length-append, length-set, get_or}
 use Rattle.std.proofs.Common.{get_or-set_same, get_or-set_other, refl, sym, ap, subst, ◌∙◌, arith}
 use Rattle.std.proofs.Common.{inl, inr, set}
@@ -10,14 +10,13 @@ use Rattle.std.proofs.lemmas.List.{get_or_append_left, get_or_push}
 use Rattle.std.proofs.lemmas.Map.Steps.{length-le_from_distinct_below}
 use Rattle.clause_store.specs.declared.literal.Lit.{Lit}
 use Rattle.watched_literals.specs.declared.chains.Node.{Node}
-use Rattle.watched_literals.specs.Chains.{none, node_of, code_of, next_of, Avoids, IsAmong}
-use Rattle.watched_literals.specs.Chains.{IsChain, HasAllOf, AreLinked, IsWalk, first_of_list}
+use Rattle.watched_literals.specs.Chains.{none, node_of, code_of, next_of, Avoids}
+use Rattle.watched_literals.specs.Chains.{IsChain, HasAllOf, AreLinked, IsWalk}
 use Rattle.watched_literals.specs.Chains.{nodes_left, lit_of}
 use Rattle.watched_literals.specs.declared.chains.Chains.{Chains}
 use Rattle.watched_literals.specs.Rooms.{AreNodesPut}
-use Rattle.watched_literals.proofs.ChainLemmas.{chain_more, chain_avoids_new, chain_first}
+use Rattle.watched_literals.proofs.ChainLemmas.{chain_more, chain_avoids_new}
 use Rattle.watched_literals.proofs.ChainLemmas.{chain_rest, blank}
-use Rattle.watched_literals.proofs.WalkLemmas.{later, rest_is, chain_here, next_is}
 
 -- ---- one node more
 

@@ -1,21 +1,18 @@
 -- A node moves from the chain of one literal into that of another.
-use Rattle.std.proofs.Common.{◌≡◌, ◌≢◌, ◌≤◌, ◌<◌, ◌+◌, ℕ, List, [], ◌∷◌, ◌++◌, length}
-use Rattle.std.proofs.Common.{length-append}
+use Rattle.std.proofs.Common.{◌≡◌, ◌≢◌, ◌≤◌, ◌<◌, ℕ, List, [], ◌∷◌, ◌++◌, length}
 use Rattle.std.proofs.Common.{length-set, get_or, get_or-set_same, get_or-set_other, refl, sym, ap}
 use Rattle.std.proofs.Common.{subst, ◌∙◌, arith, inl, inr, set}
 use Rattle.std.proofs.lemmas.Bool.{cases_eq}
-use Rattle.std.proofs.lemmas.List.{get_or_append_left, get_or_push}
 use Rattle.clause_store.specs.declared.literal.Lit.{Lit}
 use Rattle.watched_literals.specs.declared.chains.Node.{Node}
-use Rattle.watched_literals.specs.Chains.{none, node_of, code_of, next_of, Avoids, IsAmong}
-use Rattle.watched_literals.specs.Chains.{IsChain, HasAllOf, AreLinked, AreEach, IsWalk, IsUnlinked}
+use Rattle.watched_literals.specs.Chains.{none, node_of, code_of, next_of}
+use Rattle.watched_literals.specs.Chains.{IsChain, HasAllOf, AreLinked, IsWalk, IsUnlinked}
 use Rattle.watched_literals.specs.Chains.{first_of_list, last_of_list}
-use Rattle.watched_literals.proofs.ChainLemmas.{avoids_both, avoids_right, among_without}
+use Rattle.watched_literals.proofs.ChainLemmas.{avoids_both, among_without}
 use Rattle.watched_literals.proofs.ChainLemmas.{node_other, node_same, chain_frame, chain_avoids}
 use Rattle.watched_literals.proofs.ChainLemmas.{chain_apart, chain_rest, chain_cut, chain_put}
-use Rattle.watched_literals.proofs.ChainLemmas.{chain_more, chain_avoids_new, blank}
-use Rattle.watched_literals.proofs.WalkLemmas.{last_own, later, list, chain_here, next_is}
-use Rattle.watched_literals.proofs.WalkLemmas.{walk_within, walk_own}
+use Rattle.watched_literals.proofs.WalkLemmas.{last_own, later, list, next_is}
+use Rattle.watched_literals.proofs.WalkLemmas.{walk_within, walk_own, rest_falls}
 
 -- one chain lost a node; the others stayed
 record IsCut (nodes : List Node) (heads : List ℕ) (code : ℕ) (left : List ℕ)
@@ -236,11 +233,12 @@ module _ (nodes : List Node) (heads : List ℕ) (code at : ℕ) (kept rest : Lis
 
 -- a walk goes on when the node moved to the chain of another literal
 pub walk_moves : (Has : ℕ → Type 0) (nodes : List Node) (heads : List ℕ) (code last at : ℕ)
-    (to : Lit) (nodes1 : List Node) (heads1 : List ℕ) → IsWalk Has nodes heads code last at
+    (to : Lit) (nodes1 : List Node) (heads1 : List ℕ)
+    → (walk : IsWalk Has nodes heads code last at)
     → at ≢ none → code < length heads → to.0 ≢ code → to.0 < length heads
     → IsUnlinked nodes heads code last (next_of nodes at) nodes1 heads1
-    → IsWalk Has (set nodes1 at (record { lit = to; next = get_or heads1 to.0 none }))
-    (set heads1 to.0 at) code last (next_of nodes at)
+    → (goes : IsWalk Has (set nodes1 at (record { lit = to; next = get_or heads1 to.0 none }))
+    (set heads1 to.0 at) code last (next_of nodes at)) × (length goes.rest < length walk.rest)
 walk_moves Has nodes heads code last at to nodes1 heads1 walk some within other to_within is =
     let all = list Has nodes heads code last at walk some in
     let rest : List ℕ = later Has nodes heads code last at walk some in
@@ -252,13 +250,15 @@ walk_moves Has nodes heads code last at to nodes1 heads1 walk some within other 
     let both =
     moved nodes heads code at walk.kept rest nodes1 heads1 to walk.linked all is_cut
     (walk_within Has nodes heads code last at walk some)
-    (walk_own Has nodes heads code last at walk some) other to_within in
-    record {
-      linked = both.1;
-      kept = walk.kept;
-      rest = rest;
-      list = both.0;
-      last_is = walk.last_is;
-      at_is = next;
-      done = walk.done;
-    }
+    (walk_own Has nodes heads code last at walk some) other to_within in (
+      record {
+        linked = both.1;
+        kept = walk.kept;
+        rest = rest;
+        list = both.0;
+        last_is = walk.last_is;
+        at_is = next;
+        done = walk.done;
+      },
+      omega (arith, rest_falls Has nodes heads code last at walk some),
+    )

@@ -1,8 +1,8 @@
 -- Watches when one node went into the chain of another literal.
-use Rattle.std.proofs.Common.{◌≡◌, ◌≢◌, ◌≤◌, ◌<◌, ◌+◌, ◌-◌, ◌*◌, ◌/◌, ◌%◌, ℕ, Bool, true, false}
+use Rattle.std.proofs.Common.{◌≡◌, ◌≢◌, ◌≤◌, ◌<◌, ◌+◌, ◌*◌, ◌/◌, ℕ, false}
 use Rattle.std.proofs.Common.{List}
 use Rattle.std.proofs.Common.{length, length-set, get_or, set, get_or-set_same, get_or-set_other}
-use Rattle.std.proofs.Common.{refl, sym, ap, subst, ◌∙◌, arith, inl, inr, ◌⊎◌}
+use Rattle.std.proofs.Common.{sym, ap, subst, ◌∙◌, arith, inl, inr, ◌⊎◌}
 use Rattle.std.specs.Prelude.{Contains}
 use Rattle.std.proofs.lemmas.Bool.{cases_eq}
 use Rattle.clause_store.specs.declared.literal.Lit.{Lit}
@@ -12,7 +12,7 @@ use Rattle.propagator.specs.Watched.{Attached}
 use Rattle.watched_literals.specs.declared.chains.Node.{Node}
 use Rattle.watched_literals.specs.declared.tables.Tables.{Tables}
 use Rattle.watched_literals.specs.Chains.{none, node_of, lit_of, AreLinked, IsUnlinked}
-use Rattle.watched_literals.specs.Watching.{IsPair, AreNone, IsTrueBy, IsSettled, AreSettled}
+use Rattle.watched_literals.specs.Watching.{IsTrueBy, IsSettled, AreSettled}
 use Rattle.watched_literals.specs.Watching.{IsRow, AreWatching, IsDone, IsMoved, partner_of}
 use Rattle.watched_literals.proofs.ChainLemmas.{node_other, node_same}
 
@@ -58,7 +58,7 @@ module _ (nodes : List Node) (heads : List ℕ) (code last next : ℕ) (half : L
         | inr later ↦ ap length (is.later_heads later)
       ]
 
-side : (at : ℕ) → (at ≡ 2 * (at / 2)) ⊎ (at ≡ 2 * (at / 2) + 1)
+pub side : (at : ℕ) → (at ≡ 2 * (at / 2)) ⊎ (at ≡ 2 * (at / 2) + 1)
 side at =
     elim (cases_eq at (2 * (at / 2))) [
       | inl even ↦ inl even
@@ -193,12 +193,11 @@ module _ (vars : ℕ) (entries : List Attached) (old new : Tables) (known : List
 
     row_else : (number : ℕ) (d : Attached) → number < length entries → number ≢ at / 2
         → IsRow (get_or entries number d).lits (get_or new.saved.items number 0)
-        (get_or new.pending.waits number false) (lit_of new.chains.nodes.items (2 * number))
+        (lit_of new.chains.nodes.items (2 * number))
         (lit_of new.chains.nodes.items (2 * number + 1))
     row_else number d inside other =
         rw (
           saved_else number other,
-          is.pending,
           lit_else (2 * number) (λ same. other (grind (arith, same))),
           lit_else (2 * number + 1) (λ same. other (grind (arith, same))),
         )
@@ -217,7 +216,6 @@ module _ (vars : ℕ) (entries : List Attached) (old new : Tables) (known : List
 
     row_here : (d : Attached)
         → IsRow (get_or entries (at / 2) d).lits (get_or new.saved.items (at / 2) 0)
-        (get_or new.pending.waits (at / 2) false)
         (lit_of new.chains.nodes.items (2 * (at / 2)))
         (lit_of new.chains.nodes.items (2 * (at / 2) + 1))
     row_here d =
@@ -250,7 +248,6 @@ module _ (vars : ℕ) (entries : List Attached) (old new : Tables) (known : List
                     })
               ];
           short = λ few. absurd (omega (arith, few, long d));
-          short_waits = λ few. absurd (omega (arith, few, long d));
           binary = λ none_is. absurd (is.short (sym saved_here ∙ none_is));
         }
 
@@ -306,7 +303,7 @@ module _ (vars : ℕ) (entries : List Attached) (old new : Tables) (known : List
             | inl same ↦
                 subst
                 (λ r. IsRow (get_or entries r d).lits (get_or new.saved.items r 0)
-                (get_or new.pending.waits r false) (lit_of new.chains.nodes.items (2 * r))
+                (lit_of new.chains.nodes.items (2 * r))
                 (lit_of new.chains.nodes.items (2 * r + 1))) (sym same) (row_here d)
             | inr other ↦ row_else number d inside other
           ];
@@ -319,5 +316,7 @@ module _ (vars : ℕ) (entries : List Attached) (old new : Tables) (known : List
                 (settled_here (ap (λ r. get_or new.pending.waits r false) (sym same) ∙ off))
             | inr other ↦ settled_else number inside other off
           ];
+      shorts =
+          λ number d inside short off. was.shorts number d inside short (off_before number off);
       reached = was.reached;
     }

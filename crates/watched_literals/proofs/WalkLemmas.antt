@@ -1,19 +1,15 @@
 -- Walks along the chain of a literal: their steps and their end.
-use Rattle.std.proofs.Common.{◌≡◌, ◌≢◌, ◌≤◌, ◌<◌, ◌+◌, ◌⊎◌, ℕ, suc, eqb, cond, List, [], ◌∷◌, ◌++◌}
-use Rattle.std.proofs.Common.{length, length-append, length-set, get_or, get_or-set_same}
-use Rattle.std.proofs.Common.{get_or-set_other, refl, sym, ap, subst, ◌∙◌, arith, inl, inr, set}
-use Rattle.std.proofs.lemmas.Bool.{cases_eq}
+use Rattle.std.proofs.Common.{◌≡◌, ◌≢◌, ◌<◌, ◌+◌, ℕ, List, [], ◌∷◌, ◌++◌}
+use Rattle.std.proofs.Common.{length, get_or}
+use Rattle.std.proofs.Common.{refl, sym, ap, subst, ◌∙◌, arith}
 use Rattle.std.proofs.lemmas.List.{append-nil}
-use Rattle.clause_store.specs.declared.literal.Lit.{Lit}
 use Rattle.watched_literals.specs.declared.chains.Node.{Node}
-use Rattle.watched_literals.specs.Chains.{none, node_of, code_of, next_of, Avoids, IsAmong, IsLink}
+use Rattle.watched_literals.specs.Chains.{none, code_of, next_of, IsAmong}
 use Rattle.watched_literals.specs.Chains.{IsChain, HasAllOf, AreLinked, AreEach, IsWalk}
 use Rattle.watched_literals.specs.Chains.{first_of_list, last_of_list}
-use Rattle.watched_literals.proofs.ChainLemmas.{avoids_left, avoids_both, avoids_right}
-use Rattle.watched_literals.proofs.ChainLemmas.{among_without, each_among, each_push, last_push}
-use Rattle.watched_literals.proofs.ChainLemmas.{append_one, node_other, node_same, chain_frame}
-use Rattle.watched_literals.proofs.ChainLemmas.{chain_avoids, chain_first, chain_rest, chain_apart}
-use Rattle.watched_literals.proofs.ChainLemmas.{chain_cut, chain_put}
+use Rattle.watched_literals.proofs.ChainLemmas.{each_among, each_push, last_push}
+use Rattle.watched_literals.proofs.ChainLemmas.{append_one}
+use Rattle.watched_literals.proofs.ChainLemmas.{chain_first, chain_rest}
 
 -- a walk begins at the head
 pub walk_begins : (Has : ℕ → Type 0) (nodes : List Node) (heads : List ℕ) (code : ℕ)
@@ -120,15 +116,24 @@ module _ (Has : ℕ → Type 0) (nodes : List Node) (heads : List ℕ) (code las
   pub next_is : next_of nodes at ≡ first_of_list later
   next_is = chain_first nodes code (next_of nodes at) later chain_here.1
 
+  -- what is left is shorter by one
+  pub rest_falls : length walk.rest ≡ length later + 1
+  rest_falls = ap length rest_is ∙ omega arith
+
   -- a node that has the property stays in the chain
-  pub walk_stays : Has at → IsWalk Has nodes heads code at (next_of nodes at)
-  walk_stays is = record {
-    linked = walk.linked;
-    kept = walk.kept ++ at ∷ [];
-    rest = later;
-    list =
-        subst (HasAllOf nodes code (get_or heads code none)) (append_one walk.kept at later) list;
-    last_is = sym (last_push walk.kept at);
-    at_is = next_is;
-    done = each_push Has walk.kept at walk.done is;
-  }
+  pub walk_stays :
+      Has at → (goes : IsWalk Has nodes heads code at (next_of nodes at))
+      × (length goes.rest < length walk.rest)
+  walk_stays is = (
+    record {
+      linked = walk.linked;
+      kept = walk.kept ++ at ∷ [];
+      rest = later;
+      list =
+          subst (HasAllOf nodes code (get_or heads code none)) (append_one walk.kept at later) list;
+      last_is = sym (last_push walk.kept at);
+      at_is = next_is;
+      done = each_push Has walk.kept at walk.done is;
+    },
+    omega (arith, rest_falls),
+  )

@@ -1,30 +1,28 @@
 -- Watches that are opened, get a clause, and go back.
-use Rattle.std.proofs.Common.{◌≡◌, ◌≢◌, ◌≤◌, ◌<◌, ◌+◌, ◌*◌, ℕ, Bool, true, false, min, List, []}
+use Rattle.std.proofs.Common.{◌≡◌, ◌≢◌, ◌≤◌, ◌<◌, ◌+◌, ◌*◌, ℕ, Bool, true, false, List, []}
 use Rattle.std.proofs.Common.{◌∷◌}
 use Rattle.std.proofs.Common.{◌++◌, length, length-append, get_or, map, take, replicate, refl, sym}
 use Rattle.std.proofs.Common.{ap, subst, ◌∙◌, arith, inl, inr}
 use Rattle.std.proofs.Common.{zero, suc, None}
-use Rattle.std.specs.Prelude.{Any, All, Contains, filter, nat_le}
-use Rattle.std.proofs.lemmas.Bool.{cases_eq, cases_lt, cases_Bool, le-leb, lt-leb}
+use Rattle.std.specs.Prelude.{Any, All, filter, nat_le}
+use Rattle.std.proofs.lemmas.Bool.{cases_lt, cases_Bool, le-leb, lt-leb, false≢true}
 use Rattle.std.proofs.lemmas.List.{get_or_append_left, get_or_push, get_or-replicate}
 use Rattle.std.proofs.lemmas.List.{length-replicate, length-map, get_or-map, get_or_default}
 use Rattle.std.proofs.lemmas.List.{length-take, get_or-take}
 use Rattle.std.proofs.lemmas.List.Elements.{All-cons, All-nil}
 use Rattle.clause_store.specs.declared.literal.Lit.{Lit}
-use Rattle.clause_store.specs.Clause.{negation}
 use Rattle.clause_store.specs.declared.step.Step.{Step}
 use Rattle.clause_store.specs.Trail.{Assigned, up_to}
 use Rattle.clause_store.specs.Standing.{Followed, HasGoneBack, as_followed}
 use Rattle.clause_store.proofs.BackLemmas.{front_after_back}
 use Rattle.clause_store.proofs.lemmas.Trails.FollowedLemmas.{followed_fit}
 use Rattle.propagator.specs.Watched.{Attached}
-use Rattle.watched_literals.specs.declared.chains.Node.{Node}
 use Rattle.watched_literals.specs.declared.tables.Tables.{Tables}
 use Rattle.watched_literals.specs.declared.choosing.Choice.{Choice}
 use Rattle.watched_literals.specs.Chains.{none, lit_of, AreLinked}
 use Rattle.watched_literals.specs.Rooms.{IsRoomier, IsPut}
-use Rattle.watched_literals.specs.Watching.{IsPair, AreNone, IsChoice, IsTrueBy, IsSettled}
-use Rattle.watched_literals.specs.Watching.{AreSettled, IsRow, AreWatching}
+use Rattle.watched_literals.specs.Watching.{IsChoice, IsTrueBy, IsSettled}
+use Rattle.watched_literals.specs.Watching.{AreSettled, HoldsForGood, IsRow, AreWatching}
 
 -- ---- opening
 
@@ -57,6 +55,7 @@ opened vars tables nodes heads saved waits = record {
   few = omega arith;
   rows = λ number d within. absurd (omega (arith, within));
   settled = λ number within. absurd (omega (arith, within));
+  shorts = λ number d within. absurd (omega (arith, within));
   reached = omega arith;
 }
 
@@ -117,13 +116,12 @@ module _ (vars : ℕ) (entries : List Attached) (old mid new : Tables) (known : 
 
   old_row : (number : ℕ) (d : Attached) → number < length entries
       → IsRow (get_or (entries ++ entry ∷ []) number d).lits (get_or new.saved.items number 0)
-      (get_or new.pending.waits number false) (lit_of new.chains.nodes.items (2 * number))
+      (lit_of new.chains.nodes.items (2 * number))
       (lit_of new.chains.nodes.items (2 * number + 1))
   old_row number d within =
       rw (
         get_or_append_left entries (entry ∷ []) d number within,
         saved_before number within,
-        waits_before number within,
         lit_before (2 * number) (omega (arith, within)),
         lit_before (2 * number + 1) (omega (arith, within)),
       )
@@ -132,7 +130,6 @@ module _ (vars : ℕ) (entries : List Attached) (old mid new : Tables) (known : 
   new_row : (d : Attached)
       → IsRow (get_or (entries ++ entry ∷ []) (length entries) d).lits
       (get_or new.saved.items (length entries) 0)
-      (get_or new.pending.waits (length entries) false)
       (lit_of new.chains.nodes.items (2 * length entries))
       (lit_of new.chains.nodes.items (2 * length entries + 1))
   new_row d =
@@ -140,9 +137,6 @@ module _ (vars : ℕ) (entries : List Attached) (old mid new : Tables) (known : 
       (record {
         pair = chosen.pair;
         short = chosen.short;
-        short_waits =
-            λ short. ap (λ number. get_or new.pending.waits number false) (sym saved_mid)
-            ∙ is.wait.short short;
         binary = is.binary;
       })
 
@@ -156,6 +150,28 @@ module _ (vars : ℕ) (entries : List Attached) (old mid new : Tables) (known : 
         lit_before (2 * number + 1) (omega (arith, within)),
       )
       (was.settled number within (sym (waits_before number within) ∙ off))
+
+  old_short : (number : ℕ) (d : Attached) → number < length entries
+      → length (get_or (entries ++ entry ∷ []) number d).lits < 2
+      → get_or new.pending.waits number false ≡ false
+      → HoldsForGood known (get_or (entries ++ entry ∷ []) number d).lits
+  old_short number d within short off =
+      let same : get_or (entries ++ entry ∷ []) number d ≡ get_or entries number d =
+      get_or_append_left entries (entry ∷ []) d number within in
+      subst (λ (it : Attached). HoldsForGood known it.lits) (sym same)
+      (was.shorts number d within
+      (subst (λ (it : Attached). length it.lits < 2) same short)
+      (sym (waits_before number within) ∙ off))
+
+  new_waits : (d : Attached) (number : ℕ) → number ≡ length entries
+      → length (get_or (entries ++ entry ∷ []) number d).lits < 2
+      → get_or new.pending.waits number false ≢ false
+  new_waits d number last short off =
+      let same : get_or (entries ++ entry ∷ []) number d ≡ entry =
+      get_or_push entries entry d number (sym last) in
+      false≢true
+      (sym off ∙ ap (λ n. get_or new.pending.waits n false) (last ∙ sym saved_mid)
+      ∙ is.wait.short (subst (λ (it : Attached). length it.lits < 2) same short))
 
   at_count : (number : ℕ) → number < length (entries ++ entry ∷ []) → length entries ≤ number
       → number ≡ length entries
@@ -196,7 +212,7 @@ module _ (vars : ℕ) (entries : List Attached) (old mid new : Tables) (known : 
           | inr after ↦
               subst
               (λ r. IsRow (get_or (entries ++ entry ∷ []) r d).lits (get_or new.saved.items r 0)
-              (get_or new.pending.waits r false) (lit_of new.chains.nodes.items (2 * r))
+              (lit_of new.chains.nodes.items (2 * r))
               (lit_of new.chains.nodes.items (2 * r + 1)))
               (sym (at_count number within after)) (new_row d)
         ];
@@ -209,6 +225,12 @@ module _ (vars : ℕ) (entries : List Attached) (old mid new : Tables) (known : 
               (is.wait.later
               (ap (λ r. get_or new.pending.waits r false)
               (saved_mid ∙ sym (at_count number within after)) ∙ off))
+        ];
+    shorts =
+        λ number d within short off. elim (cases_lt number (length entries)) [
+          | inl before ↦ old_short number d before short off
+          | inr after ↦
+              absurd (new_waits d number (at_count number within after) short off)
         ];
     reached = was.reached;
   }
@@ -320,6 +342,16 @@ module _ (trail : Assigned) (known : List Followed) (gone : HasGoneBack trail kn
       (is at d (omega (arith, before, fewer)) within
       (sym (ap (λ (f : Followed). f.lit) same) ∙ makes)))
 
+  any_maps : {X : Type 0} (P Q : X → Type 0) (xs : List X) → ((x : X) → P x → Q x) → Any P xs
+      → Any Q xs
+  any_maps P Q xs implies (k, x, within, is, p) = (k, x, within, is, implies x p)
+
+  good_still : (lits : List Lit) → HoldsForGood known lits
+      → HoldsForGood (map as_followed trail.steps) lits
+  good_still lits some =
+      any_maps (IsTrueBy 0 known) (IsTrueBy 0 (map as_followed trail.steps)) lits
+      (λ lit is. true_still 0 lit (omega arith) is) some
+
   -- what is watched stays so when the trail goes back
   pub rewound : (vars : ℕ) (entries : List Attached) (tables : Tables) (next less : ℕ)
       → AreWatching vars entries tables known next → less ≤ next → less ≤ length trail.steps
@@ -340,5 +372,6 @@ module _ (trail : Assigned) (known : List Followed) (gone : HasGoneBack trail kn
           second =
               settled_still next less _ _ watching.reached fewer left both.second;
         };
+    shorts = λ number d within short off. good_still _ (watching.shorts number d within short off);
     reached = omega (arith, left, length-map trail.steps as_followed);
   }

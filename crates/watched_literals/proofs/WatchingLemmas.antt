@@ -1,13 +1,11 @@
 -- Watches while assignments are followed: more assignments, one more pending clause, one node
 -- in another chain, and one chain that was walked to its end.
-use Rattle.std.proofs.Common.{◌≡◌, ◌≢◌, ◌≤◌, ◌<◌, ◌+◌, ◌-◌, ◌*◌, ◌/◌, ◌%◌, ℕ, Bool, true, false}
-use Rattle.std.proofs.Common.{eqb}
-use Rattle.std.proofs.Common.{List, [], ◌∷◌, ◌++◌, length, length-append, length-set, get_or, map}
+use Rattle.std.proofs.Common.{◌≡◌, ◌≢◌, ◌≤◌, ◌<◌, ◌+◌, ◌*◌, ◌/◌, ℕ, Bool, true, false}
+use Rattle.std.proofs.Common.{List, ◌++◌, length, length-append, length-set, get_or, map}
 use Rattle.std.proofs.Common.{set}
 use Rattle.std.proofs.Common.{get_or-set_same, get_or-set_other, refl, sym, ap, subst, ◌∙◌, arith}
-use Rattle.std.proofs.Common.{inl, inr, ◌⊎◌}
-use Rattle.std.specs.Prelude.{Any, Contains}
-use Rattle.std.proofs.lemmas.Bool.{cases_Bool, cases_eq, cases_lt, false≢true}
+use Rattle.std.proofs.Common.{inl, inr}
+use Rattle.std.proofs.lemmas.Bool.{cases_eq, false≢true}
 use Rattle.std.proofs.lemmas.List.{get_or_append_left, length-map, map-append}
 use Rattle.clause_store.specs.declared.literal.Lit.{Lit}
 use Rattle.clause_store.specs.declared.step.Step.{Step}
@@ -17,10 +15,9 @@ use Rattle.clause_store.proofs.LiteralLemmas.{negation-negation}
 use Rattle.propagator.specs.Watched.{Attached}
 use Rattle.watched_literals.specs.declared.chains.Node.{Node}
 use Rattle.watched_literals.specs.declared.tables.Tables.{Tables}
-use Rattle.watched_literals.specs.Chains.{none, node_of, lit_of, code_of, AreLinked, IsUnlinked}
-use Rattle.watched_literals.specs.Watching.{IsPair, AreNone, IsTrueBy, IsSettled, AreSettled}
-use Rattle.watched_literals.specs.Watching.{IsRow, AreWatching, IsDone, IsMoved, partner_of}
-use Rattle.watched_literals.proofs.ChainLemmas.{node_other, node_same}
+use Rattle.watched_literals.specs.Chains.{lit_of, code_of, AreLinked}
+use Rattle.watched_literals.specs.Watching.{IsTrueBy, IsSettled, AreSettled}
+use Rattle.watched_literals.specs.Watching.{HoldsForGood, AreWatching, IsDone, partner_of}
 use Rattle.watched_literals.proofs.KnownLemmas.{true_more}
 
 -- ---- more assignments
@@ -39,6 +36,12 @@ settled_more steps added next lit other reached is at d before inside makes =
     (true_more steps added (get_or (map as_followed steps) at d).level other
     (is at d before within (sym (ap (λ (f : Followed). f.lit) same) ∙ makes)))
 
+good_more : (steps added : List Step) (lits : List Lit) → HoldsForGood (map as_followed steps) lits
+    → HoldsForGood (map as_followed (steps ++ added)) lits
+good_more steps added lits (k, lit, within, is, p) =
+    (k, lit, within, is, true_more steps added 0 lit p)
+
+-- what is watched stays so
 pub watching_more : (vars : ℕ) (entries : List Attached) (tables : Tables)
     (steps added : List Step) (next : ℕ)
     → AreWatching vars entries tables (map as_followed steps) next
@@ -59,6 +62,8 @@ watching_more vars entries tables steps added next was =
             first = settled_more steps added next _ _ reached both.first;
             second = settled_more steps added next _ _ reached both.second;
           };
+      shorts =
+          λ row d within short off. good_more steps added _ (was.shorts row d within short off);
       reached =
           omega (
             arith,
@@ -89,16 +94,6 @@ waits_off waits row other within off =
           ∙ get_or-set_same waits row true false within))
       | inr differs ↦
           (differs, sym (get_or-set_other waits row other true false differs) ∙ off)
-    ]
-
-waits_on : (waits : List Bool) (row other : ℕ) → row < length waits
-    → get_or waits other false ≡ true → get_or (set waits row true) other false ≡ true
-waits_on waits row other within on =
-    elim (cases_eq other row) [
-      | inl same ↦
-          ap (λ k. get_or (set waits row true) k false) same
-          ∙ get_or-set_same waits row true false within
-      | inr differs ↦ get_or-set_other waits row other true false differs ∙ on
     ]
 
 -- tables with nothing changed but that a clause is pending
@@ -132,14 +127,12 @@ module _ (vars : ℕ) (entries : List Attached) (old new : Tables) (known : List
         (record {
           pair = it.pair;
           short = it.short;
-          short_waits =
-              λ short. ap (λ waits. get_or waits other false) is.waits
-              ∙ waits_on old.pending.waits row other (omega (arith, within, was.waits))
-              (it.short_waits short);
           binary = it.binary;
         });
     settled =
         λ other inside off. rw is.chains (was.settled other inside (off_before other off).1);
+    shorts =
+        λ other d inside short off. was.shorts other d inside short (off_before other off).1;
     reached = was.reached;
   }
 
@@ -151,6 +144,92 @@ module _ (vars : ℕ) (entries : List Attached) (old new : Tables) (known : List
   -- and the nodes of that clause are done
   pub done_here : (level node : ℕ) → node / 2 ≡ row → IsDone new known level node
   done_here level node same off = absurd ((off_before (node / 2) off).0 same)
+
+-- ---- nothing changed but the stack
+
+-- tables that are the same but for the order of the stack
+pub record AreAlike (old new : Tables) : Type 0 where
+  pub chains : new.chains ≡ old.chains
+  pub saved : new.saved ≡ old.saved
+  pub waits : new.pending.waits ≡ old.pending.waits
+
+module _ (old new : Tables) (known : List Followed) (is : AreAlike old new) where
+  waits_alike : (row : ℕ) → get_or new.pending.waits row false ≡ false
+      → get_or old.pending.waits row false ≡ false
+  waits_alike row off = ap (λ waits. get_or waits row false) (sym is.waits) ∙ off
+
+  pub done_alike : (level node : ℕ) → IsDone old known level node → IsDone new known level node
+  done_alike level node done off = rw is.chains (done (waits_alike (node / 2) off))
+
+  pub watching_alike : (vars : ℕ) (entries : List Attached) (next : ℕ)
+      → AreWatching vars entries old known next → AreWatching vars entries new known next
+  watching_alike vars entries next was = record {
+    linked =
+        subst (λ chains. AreLinked chains.nodes.items chains.heads.items) (sym is.chains)
+        was.linked;
+    heads = ap (λ chains. length chains.heads.items) is.chains ∙ was.heads;
+    nodes = ap (λ chains. length chains.nodes.items) is.chains ∙ was.nodes;
+    saved = ap (λ saved. length saved.items) is.saved ∙ was.saved;
+    waits = ap length is.waits ∙ was.waits;
+    few = was.few;
+    rows = λ row d inside. rw (is.chains, is.saved) (was.rows row d inside);
+    settled = λ row inside off. rw is.chains (was.settled row inside (waits_alike row off));
+    shorts = λ row d inside short off. was.shorts row d inside short (waits_alike row off);
+    reached = was.reached;
+  }
+
+-- ---- one clause less is pending
+
+-- tables with nothing changed but that a clause isn't pending
+pub record IsUnmarked (row : ℕ) (old new : Tables) : Type 0 where
+  pub chains : new.chains ≡ old.chains
+  pub saved : new.saved ≡ old.saved
+  pub waits : new.pending.waits ≡ set old.pending.waits row false
+
+pub watching_unmarked : (vars : ℕ) (entries : List Attached) (old new : Tables)
+    (known : List Followed) (next row : ℕ) → AreWatching vars entries old known next
+    → IsUnmarked row old new
+    → AreSettled known next (lit_of old.chains.nodes.items (2 * row))
+    (lit_of old.chains.nodes.items (2 * row + 1))
+    → ((d : Attached) → length (get_or entries row d).lits < 2
+    → HoldsForGood known (get_or entries row d).lits)
+    → AreWatching vars entries new known next
+watching_unmarked vars entries old new known next row was is settled good =
+    record {
+      linked =
+          subst (λ chains. AreLinked chains.nodes.items chains.heads.items) (sym is.chains)
+          was.linked;
+      heads = ap (λ chains. length chains.heads.items) is.chains ∙ was.heads;
+      nodes = ap (λ chains. length chains.nodes.items) is.chains ∙ was.nodes;
+      saved = ap (λ saved. length saved.items) is.saved ∙ was.saved;
+      waits = ap length is.waits ∙ length-set old.pending.waits row false ∙ was.waits;
+      few = was.few;
+      rows = λ number d inside. rw (is.chains, is.saved) (was.rows number d inside);
+      settled =
+          λ number inside off. rw is.chains
+          (elim (cases_eq number row) [
+            | inl same ↦
+                subst
+                (λ r. AreSettled known next (lit_of old.chains.nodes.items (2 * r))
+                (lit_of old.chains.nodes.items (2 * r + 1))) (sym same) settled
+            | inr other ↦ was.settled number inside (off_else number other off)
+          ]);
+      shorts =
+          λ number d inside short off. elim (cases_eq number row) [
+            | inl same ↦
+                subst (λ r. HoldsForGood known (get_or entries r d).lits) (sym same)
+                (good d (subst (λ r. length (get_or entries r d).lits < 2) same short))
+            | inr other ↦ was.shorts number d inside short (off_else number other off)
+          ];
+      reached = was.reached;
+    }
+  where
+    off_else : (number : ℕ) → number ≢ row → get_or new.pending.waits number false ≡ false
+        → get_or old.pending.waits number false ≡ false
+    off_else number other off =
+        sym (get_or-set_other old.pending.waits row number false false other)
+        ∙ ap (λ waits. get_or waits number false) (sym is.waits)
+        ∙ off
 
 -- ---- a chain was walked to its end
 
@@ -195,6 +274,7 @@ watching_next vars entries tables known next fell was inside fell_is done =
                 (ap (lit_of nodes) (partner_odd row))
                 (omega (arith, within, was.nodes)) (half_odd row) off both.second;
           };
+      shorts = was.shorts;
       reached = omega (arith, inside);
     }
   where

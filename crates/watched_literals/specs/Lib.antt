@@ -4,3 +4,4 @@ pub mod Standings
 pub mod Visits
 pub mod Watching
 pub mod Rooms
+pub mod Walking

@@ -1,7 +1,7 @@
 -- How the attached clauses are watched. Each clause by itself is pending, or each of its watched
 -- literals isn't false by the assignments whose chains were walked, or the other one is true at a
 -- level that isn't higher. No public clause cites this module.
-use Rattle.std.specs.Prelude.{◌≡◌, ◌≢◌, ◌≤◌, ◌<◌, ◌+◌, ◌*◌, ℕ, Bool, true, false, List, length}
+use Rattle.std.specs.Prelude.{◌≡◌, ◌≢◌, ◌≤◌, ◌<◌, ◌+◌, ◌*◌, ℕ, false, List, length}
 use Rattle.std.specs.Prelude.{◌-◌, ◌/◌, ◌%◌, ◌==◌, if◌then◌else◌, get_or, set, Any, Contains}
 use Rattle.clause_store.specs.declared.literal.Lit.{Lit}
 use Rattle.clause_store.specs.Clause.{negation}
@@ -47,11 +47,14 @@ pub record AreSettled (known : List Followed) (next : ℕ) (one two : Lit) : Typ
   pub second : IsSettled known next two one
 
 -- the literals of the nodes of a clause, and the place where the last look at it ended
-pub record IsRow (lits : List Lit) (saved : ℕ) (waits : Bool) (one two : Lit) : Type 0 where
+pub record IsRow (lits : List Lit) (saved : ℕ) (one two : Lit) : Type 0 where
   pub pair : 2 ≤ length lits → IsPair lits one two
   pub short : length lits < 2 → AreNone one two
-  pub short_waits : length lits < 2 → waits ≡ true
   pub binary : saved ≡ none → length lits ≡ 2
+
+-- an assignment of level 0 makes a literal of a clause true
+abbrev pub HoldsForGood : List Followed → List Lit → Type 0
+HoldsForGood known lits = Any (IsTrueBy 0 known) lits
 
 -- the attached clauses are watched; the chains of the first `next` known assignments were walked
 pub record AreWatching (vars : ℕ) (entries : List Attached) (tables : Tables)
@@ -65,12 +68,17 @@ pub record AreWatching (vars : ℕ) (entries : List Attached) (tables : Tables)
   pub rows :
       (number : ℕ) (d : Attached) → number < length entries
       → IsRow (get_or entries number d).lits (get_or tables.saved.items number 0)
-      (get_or tables.pending.waits number false) (lit_of tables.chains.nodes.items (2 * number))
+      (lit_of tables.chains.nodes.items (2 * number))
       (lit_of tables.chains.nodes.items (2 * number + 1))
   pub settled :
       (number : ℕ) → number < length entries → get_or tables.pending.waits number false ≡ false
       → AreSettled known next (lit_of tables.chains.nodes.items (2 * number))
       (lit_of tables.chains.nodes.items (2 * number + 1))
+  pub shorts :
+      (number : ℕ) (d : Attached) → number < length entries
+      → length (get_or entries number d).lits < 2
+      → get_or tables.pending.waits number false ≡ false
+      → HoldsForGood known (get_or entries number d).lits
   pub reached : next ≤ length known
 
 -- the other node of the clause

@@ -2,12 +2,21 @@
 //! fixpoint or to a clause that is false.
 #![tactic(auto)]
 
+mod again;
 mod chains;
 mod choosing;
+mod cursor;
 mod entry;
+mod node_visit;
 mod pending;
+mod propagation;
+mod run;
 mod settled;
 mod standing;
 mod tables;
 mod visit;
+mod walk;
 mod watches;
+
+pub use propagation::propagate;
+pub use watches::Watches;

@@ -52,28 +52,18 @@ impl Tables {
 
     /// Moves a node that comes after `last` from the chain of a literal into that of another, and
     /// keeps the place where the look at its clause ended.
-    pub fn move_node(&mut self, lit: Lit, to: Lit, last: u32, at: u32, next: u32, place: usize)
+    pub fn move_node(&mut self, lit: Lit, to: Lit, last: u32, at: u32, next: u32, place: u32)
         requires last { last ≢ none → last < length self.old.chains.nodes.items }
         requires at { at < length self.old.chains.nodes.items }
         requires row { at / 2 < length self.old.saved.items }
         requires lit { lit.0 < length self.old.chains.heads.items }
         requires to { to.0 < length self.old.chains.heads.items }
+        requires place { place ≢ none }
         ensures { IsMoved lit to last at next self.old self.new }
     {
-        self.saved[at as usize / 2] = short_place(place);
+        self.saved[at as usize / 2] = place;
         self.chains.unlink(lit, last, next);
         self.chains.link(at, to);
-    }
-}
-
-/// A place as it is kept: any will do, as looks go round.
-fn short_place(place: usize) -> u32
-    ensures { result ≢ none }
-{
-    if place < BINARY as usize {
-        place as u32
-    } else {
-        0
     }
 }
 

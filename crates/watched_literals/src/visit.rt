@@ -2,16 +2,20 @@
 ghost use Rattle.std.specs.Prelude.{◌≡◌, ◌≢◌, ◌≤◌, ◌<◌, ◌↔◌, length, All, IsTrue};
 ghost use Rattle.clause_store.specs.Clause.{IsOver};
 ghost use Rattle.clause_store.specs.Standing.{IsFalse};
-ghost use Rattle.watched_literals.specs.Visits.{AreFalseBut, IsOpenAt, IsVisited};
+ghost use Rattle.watched_literals.specs.Chains.{none};
+ghost use Rattle.watched_literals.specs.Visits.{IsByOther, IsOpenAt, IsVisited};
 ghost use Rattle.watched_literals.specs.Visits.{AreFalseWithin};
 
+use crate::tables::BINARY;
 use clause_store::{Lit, Trail, Value};
 
 /// What becomes of a clause one of whose watched literals is false.
 #[derive(Debug, Drop, Clone, Copy)]
 pub enum Visit {
-    /// The literal at this place isn't false and isn't the other watched one.
-    Moves(usize),
+    /// The other watched literal is true at a level that isn't higher.
+    Stays,
+    /// This literal isn't false and isn't the other watched one. The look ended at that place.
+    Moves(Lit, u32),
     /// All literals but the other watched one are false.
     Implies,
     /// All literals are false.
@@ -28,20 +32,30 @@ pub fn visit_clause(clause: &[Lit], trail: &Trail, start: usize, other: Lit) -> 
     let start = start.min(end);
     let later = place_to_watch(clause, trail, other, start, end);
     if later < end {
-        return Visit::Moves(later);
+        return Visit::Moves(clause[later], short_place(later));
     }
     let earlier = place_to_watch(clause, trail, other, 0, start);
     if earlier < start {
-        return Visit::Moves(earlier);
+        return Visit::Moves(clause[earlier], short_place(earlier));
     }
-    without_others(clause, trail, other)
+    without_others(trail, other)
+}
+
+/// A place as it is kept: any will do, as looks go round.
+fn short_place(place: usize) -> u32
+    ensures { result ≢ none }
+{
+    if place < BINARY as usize {
+        place as u32
+    } else {
+        0
+    }
 }
 
 /// What becomes of a clause whose literals but the other watched one are false.
-pub fn without_others(clause: &[Lit], trail: &Trail, other: Lit) -> Visit
-    requires other { IsOver trail.now.vars other }
-    requires falses { AreFalseBut trail.now.steps other clause.now }
-    ensures { IsVisited trail.now.steps clause.now other result }
+pub fn without_others(trail: &Trail, other: Lit) -> Visit
+    requires { IsOver trail.now.vars other }
+    ensures { IsByOther trail.now.steps other result }
 {
     if is_false(trail, other) {
         Visit::IsFalse

@@ -1,15 +1,17 @@
 // The invariant speaks of each clause by itself: it is pending, or each of its two watched literals
 // isn't false, or is false by an assignment whose chain wasn't walked yet, or is false while the
 // other one is true at a level that isn't higher. So no going back of the trail can break it.
-ghost use Rattle.std.specs.Prelude.{◌≡◌, ◌≤◌, ◌<◌, ◌^◌, [], length, IfOk, OnErr};
+ghost use Rattle.std.specs.Prelude.{◌≡◌, ◌≤◌, ◌<◌, ◌^◌, [], length, IfOk, OnErr, IfNone, IfSome};
 ghost use Rattle.clause_store.specs.Clause.{AreOver};
-ghost use Rattle.clause_store.specs.Standing.{AreFollowed, HasGoneBack};
-ghost use Rattle.propagator.specs.Watched.{IsAttached};
+ghost use Rattle.clause_store.specs.Standing.{AreFollowed, HasGoneBack, IsConflict};
+ghost use Rattle.propagator.specs.Watched.{IsAttached, IsReady};
+ghost use Rattle.propagator.specs.Fixpoint.{IsFixpoint, Extends};
 
 use crate::chains::{Chains, NONE};
 use crate::choosing::choose;
 use crate::entry::Entry;
 use crate::pending::Pending;
+use crate::run::run;
 use crate::tables::Tables;
 use clause_store::{ClauseRef, Store, Trail};
 use item_list::NoMemory;
@@ -115,6 +117,29 @@ impl Watches {
     {
         self.next = lesser(self.next, trail.steps().len());
         self.known = Snapshot::of(trail);
+    }
+
+    /// Assigns what the clauses of the store force, until nothing is left to do or a clause is
+    /// false, which is given.
+    pub(crate) fn follow(&mut self, store: &Store, trail: &mut Trail) -> Option<ClauseRef>
+        requires { IsReady store.now trail.old self.old }
+        ensures none { IfNone result (IsFixpoint store.now trail.new.steps) }
+        ensures some { IfSome result (IsConflict store.now trail.new.steps) }
+        ensures extends { Extends trail.old trail.new }
+        ensures ready { IsReady store.now trail.new self.new }
+        ensures rest { self.new ≡ record self.old { followed = self.new.followed } }
+    {
+        trail.vouch();
+        let found = run(
+            store,
+            trail,
+            self.entries.as_slice(),
+            &mut self.tables,
+            &mut self.looked,
+            &mut self.next,
+        );
+        self.known = Snapshot::of(trail);
+        found
     }
 
     /// How many clauses had their literals looked at. It stays at the greatest number.

@@ -4,3 +4,6 @@ pub mod ReduceLemmas
 pub mod TestLemmas
 pub mod SpentLemmas
 pub mod RoundLemmas
+pub mod AskedLemmas
+pub mod DeskLemmas
+pub mod PartLemmas

@@ -39,6 +39,21 @@ pub record Desk : Type 0 where
   pub kept : Option Kept
   pub counted : ℕ
 
+-- rounds that were opened: no tester yet, and no test
+abbrev pub opened_desk : Normal → Mode → ℕ → ℕ → Desk
+opened_desk normal mode number budget = record {
+  normal = normal;
+  mode = mode;
+  number = number;
+  budget = budget;
+  completed = base_clauses normal;
+  main = None;
+  first = None;
+  began = base_clauses normal;
+  kept = None;
+  counted = 0;
+}
+
 -- the main tester, which is opened at the first job that needs it
 abbrev pub main_of : Desk → Testing
 main_of desk = or_opened desk.normal desk.main
@@ -83,6 +98,12 @@ pub record IsReady (desk : Desk) : Type 0 where
   pub base : IsFrontOf (base_clauses desk.normal) desk.began
   pub front : IsFrontOf desk.began (main_of desk).clauses
   pub keeps : IfSome desk.kept (IsKeptTest desk)
+
+-- what a worker keeps: all is ready until it is dead
+pub record IsAtWork (desk : Desk) (dead : Bool) : Type 0 where
+  pub is_normal : IsNormal desk.normal
+  pub some : 1 ≤ desk.budget
+  pub ready : dead ≡ false → IsReady desk
 
 -- what contracts see of a kept test
 abbrev pub kept_test : Option Kept → Option KeptTest

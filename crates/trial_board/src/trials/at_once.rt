@@ -82,7 +82,7 @@ fn learn(board: &Board, reading: Reading, noted: BoardSeat) -> Pair
 
 /// Whether a pair has what the answer set of 2 and 4 shows: candidate 2 as outside in cautious mode,
 /// and the others as inside in brave mode.
-fn has_what_is_shown(mode: Mode, pair: &Pair) -> bool {
+pub fn has_what_is_shown(mode: Mode, pair: &Pair) -> bool {
     let lower = pair.lower.as_slice();
     let upper = pair.upper.as_slice();
     match mode {

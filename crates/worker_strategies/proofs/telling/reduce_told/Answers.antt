@@ -1,10 +1,6 @@
-use Rattle.std.proofs.Common.{[], ap, arith, subst, sym}
-use Rattle.std.proofs.lemmas.List.Elements.{All-head}
-use Rattle.clause_store.specs.Clause.{IsTrueIn}
-use Rattle.normal_program.specs.Normal.{extension}
+use Rattle.std.proofs.Common.{subst, sym}
 use Rattle.coherence_test.specs.Asked.{IsTested, IsTestedAt}
 use Rattle.worker_jobs.specs.declared.job.Job.TheVariants.{Reduce}
-use Rattle.worker_jobs.specs.Job.{test_literal}
 use Rattle.worker_strategies.specs.Disjunction.{asked_for}
 use Rattle.worker_strategies.specs.Outcome.{IsAnswer}
 use Rattle.worker_strategies.proofs.ReduceLemmas.{reduce_found}

@@ -1,6 +1,6 @@
 use Rattle.std.proofs.Common.{◌≤◌, List, ap, length, map, sym, subst}
 use Rattle.clause_store.specs.declared.step.Step.{Step}
-use Rattle.clause_store.specs.Standing.{Followed, HasGoneBack, as_followed}
+use Rattle.clause_store.specs.Standing.{HasGoneBack, as_followed}
 use Rattle.clause_store.specs.Trail.{Assigned}
 use Rattle.propagator.specs.Watched.{Watched}
 use Rattle.watched_literals.specs.Watching.{AreWatching}
