@@ -1,5 +1,5 @@
 // Random programs in which 2 to 11 may be chosen, and 1, which must be false, follows from random
-// bodies of three literals. Their testers count clauses of all lengths.
+// bodies of three or four literals. Their testers count clauses of all lengths.
 ghost use Rattle.std.specs.Prelude.{IfOk, IfSome};
 ghost use Rattle.ground_program.specs.Program.{IsProgram};
 
@@ -14,7 +14,7 @@ use trial_inputs::Draws;
 const ATOMS: u32 = 11;
 
 /// How many bodies there are. With more of them few programs have answer sets.
-const BODIES: u32 = 38;
+const BODIES: u32 = 54;
 
 /// The next of these programs. There is always one.
 pub fn constrained_program(alloc: Global, draws: &mut Draws) -> Result<Option<Program>, NoMemory>
@@ -63,11 +63,12 @@ fn choice(alloc: Global) -> Result<Rule, NoMemory> {
     })
 }
 
-/// 1 follows from three literals, of which the negative ones come first.
+/// 1 follows from three or four literals, of which the negative ones come first.
 fn constraint(alloc: Global, draws: &mut Draws) -> Result<Rule, NoMemory> {
     let mut body = Body::open();
-    let negatives = draws.up_to(3);
-    for at in 0..3u32 {
+    let length = draws.up_to(1).saturating_add(3);
+    let negatives = draws.up_to(length);
+    for at in 0..length {
         let lit = AtomLit {
             atom: draws.up_to(ATOMS - 2).saturating_add(2),
             negated: at < negatives,
@@ -76,7 +77,7 @@ fn constraint(alloc: Global, draws: &mut Draws) -> Result<Rule, NoMemory> {
     }
     Ok(Rule {
         kind: Kind::Basic,
-        bound: 3,
+        bound: length,
         heads: Heads::one(1),
         body,
     })
