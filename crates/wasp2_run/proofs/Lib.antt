@@ -1,4 +1,3 @@
-pub mod SettlingLemmas
 pub mod EndingLemmas
-pub mod AnswerLemmas
 pub mod RowLemmas
+pub mod AcceptedLemmas

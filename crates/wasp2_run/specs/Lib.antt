@@ -1,3 +1,1 @@
-pub mod Built
 pub mod Run
-pub mod Ending

@@ -1,9 +1,10 @@
 //! One run of the program: words and a source in, a report and a status out.
 #![tactic(auto)]
 
-mod one_set_lines;
-mod program_answer;
 mod refusal_line;
 mod running;
+mod top;
 
-pub use running::{Ended, run};
+pub use query_run::Ended;
+pub use running::run_one;
+pub use top::run;

@@ -1,116 +1,117 @@
-// The top call.
-ghost use Rattle.std.specs.Prelude.{◌≡◌, ◌≢◌, ◌↔◌, ◌⊎◌, [], Some, IsTrue, IfSome, IfOk, map, codes};
-ghost use Rattle.std.specs.Prelude.{string_bytes};
+// One query over a source.
+ghost use Rattle.std.specs.Prelude.{◌≡◌, ◌≢◌, ◌⊎◌, [], Some, IfSome, IfOk};
 ghost use Rattle.byte_edges.specs.Faults.{Rose};
-ghost use Rattle.wasp2_run.specs.Run.{IsQuery, IsAllowed, IsRefusalOf, Ran, why_of};
-ghost use Rattle.wasp2_run.specs.Ending.{Ends};
+ghost use Rattle.ground_program.specs.Program.{IsProgram};
+ghost use Rattle.lparse_reader.specs.Refuses.{IsOfSomeText};
+ghost use Rattle.run_words.specs.Words.{AreSettings, IsAlone};
+ghost use Rattle.query_run.specs.Answers.{Ends};
+ghost use Rattle.wasp2_run.specs.Run.{HasAnswered, IsAllowed, IsAnsweredBy, IsRefusalOf, QueryRow};
+ghost use Rattle.wasp2_run.specs.Run.{IsSizeRefusalOf, Ran, why_of};
 
-use crate::program_answer::answer;
-use crate::refusal_line::{refuse, tell_no_memory};
+use crate::refusal_line::{refuse, tell_no_memory, without_tests};
 use byte_edges::{Sink, Source, WriteFault};
+use ground_program::Program;
 use lparse_reader::{ReadError, TextFault, read_program};
+use query_run::{Ended, answer_query};
 use report::Why;
+use rule_normaliser::{NormalError, normalise};
+use run_words::Settings;
 use std::alloc::Global;
 
 // How many bytes an input may have.
 const MOST_BYTES: u64 = 67108864;
 
-/// How a run ended.
-#[derive(Debug, Drop, Clone, Copy, PartialEq, Eq)]
-pub struct Ended {
-    /// 0 complete, 2 incoherent, 3 input refused, 4 words refused, 5 reading failed, 6 writing
-    /// failed, 7 out of memory.
-    pub status: u8,
-}
-
-/// Reads a program from the source and writes the report on it to the sink.
-pub fn run<S: Source, K: Sink>(
+/// Reads a program from the source and writes the report on it to the sink, by one worker with no
+/// watcher.
+pub fn run_one<S: Source, K: Sink>(
     alloc: Global,
-    words: &[String],
+    settings: &Settings,
     source: &mut S,
     sink: &mut K,
 ) -> Ended
-    // What was written and the status are a row of the table, or the writing was cut off.
-    ensures table { Ran S.left S.faults K.written K.faults (map string_bytes words.now)
-        source.old source.new sink.old sink.new result.status }
+    requires settings { AreSettings settings.now }
+    requires alone { IsAlone settings.now }
+    ensures table { Ran K.written K.faults
+        (IsAllowed (λ input. QueryRow settings.now input (S.faults source.old)
+        (S.faults source.new)) (S.left source.old))
+        sink.old sink.new result.status result.spent }
     ensures read_fault { result.status ≡ 5 → Rose (S.faults source.old) (S.faults source.new) }
     ensures write_fault { result.status ≡ 6 → Rose (K.faults sink.old) (K.faults sink.new) }
-    ensures all_read { (result.status ≡ 0) ⊎ (result.status ≡ 2)
+    ensures all_read { (result.status ≡ 0) ⊎ ((result.status ≡ 1) ⊎ (result.status ≡ 2))
         → IfSome (S.left source.old) (λ _. S.left source.new ≡ Some []) }
-    ensures unread { result.status ≡ 4 → source.new ≡ source.old }
+    ensures known { result.status ≢ 4 }
+    ensures accepted { IfSome (S.left source.old) (IsAnsweredBy result.status (S.faults source.old)
+        (S.faults source.new) (K.faults sink.old) (K.faults sink.new)) }
 {
-    match run_whole(alloc, words, source, sink) {
-        Ok(status) => Ended { status },
-        Err(_) => Ended { status: 6 },
+    match query(alloc, settings, source, sink) {
+        Ok(ended) => ended,
+        Err(_) => without_tests(6),
     }
 }
 
-// Writes what there is to write, and gives the status.
-fn run_whole<S: Source, K: Sink>(
+/// Writes what there is to write, and gives the status.
+fn query<S: Source, K: Sink>(
     alloc: Global,
-    words: &[String],
+    settings: &Settings,
     source: &mut S,
     sink: &mut K,
-) -> Result<u8, WriteFault>
+) -> Result<Ended, WriteFault>
+    requires settings { AreSettings settings.now }
+    requires alone { IsAlone settings.now }
     ensures table { Ends K.written K.faults sink.old sink.new
-        (IsAllowed (map string_bytes words.now) (S.left source.old) (S.faults source.old)
-        (S.faults source.new)) result }
+        (IsAllowed (λ input. QueryRow settings.now input (S.faults source.old)
+        (S.faults source.new)) (S.left source.old)) result }
     ensures read_fault { IfOk result
-        (λ status. status ≡ 5 → Rose (S.faults source.old) (S.faults source.new)) }
+        (λ told. told.status ≡ 5 → Rose (S.faults source.old) (S.faults source.new)) }
     ensures all_read { IfOk result
-        (λ status. (status ≡ 0) ⊎ (status ≡ 2)
+        (λ told. (told.status ≡ 0) ⊎ ((told.status ≡ 1) ⊎ (told.status ≡ 2))
         → IfSome (S.left source.old) (λ _. S.left source.new ≡ Some [])) }
-    ensures unread { IfOk result (λ status. status ≡ 4 → source.new ≡ source.old) }
-    ensures known { IfOk result (λ status. status ≢ 6) }
+    ensures known { IfOk result (λ told. (told.status ≢ 4) × (told.status ≢ 6)) }
 {
-    if !is_query(words) {
-        refuse(0, Why::Words, 0, sink)?;
-        return Ok(4);
-    }
     match read_program(alloc, source) {
-        Ok(program) => answer(alloc, &program, sink),
+        Ok(program) => answer(alloc, &program, settings, sink),
         Err(error) => write_refusal(error, sink),
     }
 }
 
+/// Writes the report on a program, or that it has too many variables.
+fn answer<K: Sink>(
+    alloc: Global,
+    program: &Program,
+    settings: &Settings,
+    sink: &mut K,
+) -> Result<Ended, WriteFault>
+    requires program { IsProgram program.now }
+    requires settings { AreSettings settings.now }
+    requires alone { IsAlone settings.now }
+    ensures { Ends K.written K.faults sink.old sink.new (HasAnswered program.now settings.now) result }
+{
+    match normalise(alloc, program) {
+        Ok(normal) => answer_query(alloc, program, &normal, settings, sink),
+        Err(error) => write_size_refusal(error, sink),
+    }
+}
+
+// Writes why there is no normal form.
+fn write_size_refusal<K: Sink>(error: NormalError, sink: &mut K) -> Result<Ended, WriteFault>
+    ensures { Ends K.written K.faults sink.old sink.new (IsSizeRefusalOf error) result }
+{
+    match error {
+        NormalError::TooManyVariables(count) => refuse(3, 0, Why::TooManyVariables, count, sink),
+        NormalError::NoMemory => tell_no_memory(sink),
+    }
+}
+
 // Writes why there is no program.
-fn write_refusal<K: Sink>(error: ReadError, sink: &mut K) -> Result<u8, WriteFault>
+fn write_refusal<K: Sink>(error: ReadError, sink: &mut K) -> Result<Ended, WriteFault>
     ensures { Ends K.written K.faults sink.old sink.new (IsRefusalOf error) result }
 {
     match error {
-        ReadError::Text { why, line, value } => {
-            refuse(line, why_of(why), value, sink)?;
-            Ok(3)
-        }
-        ReadError::TooLong => {
-            refuse(0, Why::TooLong, MOST_BYTES, sink)?;
-            Ok(3)
-        }
-        ReadError::ReadFault => {
-            refuse(0, Why::ReadFault, 0, sink)?;
-            Ok(5)
-        }
-        ReadError::NoMemory => {
-            tell_no_memory(sink)?;
-            Ok(7)
-        }
+        ReadError::Text { why, line, value } => refuse(3, line, why_of(why), value, sink),
+        ReadError::TooLong => refuse(3, 0, Why::TooLong, MOST_BYTES, sink),
+        ReadError::ReadFault => refuse(5, 0, Why::ReadFault, 0, sink),
+        ReadError::NoMemory => tell_no_memory(sink),
     }
-}
-
-// Whether the words are the one word `cautious`.
-fn is_query(words: &[String]) -> bool
-    ensures { IsTrue result ↔ IsQuery (map string_bytes words.now) }
-{
-    match words {
-        [word] => is_cautious(word),
-        _ => false,
-    }
-}
-
-fn is_cautious(word: &String) -> bool
-    ensures { IsTrue result ↔ (string_bytes word.now ≡ codes "cautious") }
-{
-    word.as_bytes() == b"cautious".as_slice()
 }
 
 // The word for a fault of a text.

@@ -4,11 +4,11 @@ use std::alloc::{AllocError, Global};
 use std::test::Fail;
 use wasp2_run::run;
 
-// A word, an input, what is written and the status.
+// Words, an input, the reports that there may be, and the status.
 struct Case {
-    word: &'static str,
+    words: &'static [&'static str],
     input: &'static [u8],
-    output: &'static [u8],
+    reports: &'static [&'static [u8]],
     status: u8,
 }
 
@@ -16,87 +16,192 @@ const FACT: &[u8] = b"1 2 0 0\n0\n2 a\n0\nB+\n0\nB-\n1\n0\n1\n";
 
 const FACT_REPORT: &[u8] = b"ANSWER 1 2\nIN 1 0 a\nPAIR 1 1\nCOMPLETE\n";
 
-const ROWS: [Case; 10] = [
+static ROWS: [Case; 23] = [
     Case {
-        word: "cautious",
+        words: &["cautious"],
         input: b"0\n0\nB+\n0\nB-\n0\n1\n",
-        output: b"ANSWER 1\nPAIR 0 0\nCOMPLETE\n",
+        reports: &[b"ANSWER 1\nPAIR 0 0\nCOMPLETE\n"],
         status: 0,
     },
     Case {
-        word: "cautious",
-        input: FACT,
-        output: FACT_REPORT,
+        words: &["cautious"],
+        input: b"1 2 0 0\n0\n2 a\n0\nB+\n0\nB-\n1\n0\n1\n",
+        reports: &[b"ANSWER 1 2\nIN 1 0 a\nPAIR 1 1\nCOMPLETE\n"],
         status: 0,
+    },
+    // Two answer sets: one of two atoms, and what follows from each.
+    Case {
+        words: &["cautious"],
+        input: b"1 2 1 1 3\n1 3 1 1 2\n1 4 1 0 2\n1 4 1 0 3\n0\n2 a\n3 b\n4 c\n0\nB+\n0\nB-\n1\n0\n1\n",
+        reports: &[
+            b"ANSWER 1 2 4\nOUT 2 1 b\nPAIR 0 2\nANSWER 2 3 4\nOUT 1 2 a\nPAIR 0 1\nIN 3 0 c\nPAIR 1 1\nCOMPLETE\n",
+            b"ANSWER 1 3 4\nOUT 1 1 a\nPAIR 0 2\nANSWER 2 2 4\nOUT 2 2 b\nPAIR 0 1\nIN 3 0 c\nPAIR 1 1\nCOMPLETE\n",
+        ],
+        status: 0,
+    },
+    Case {
+        words: &["brave"],
+        input: b"1 2 1 1 3\n1 3 1 1 2\n1 4 1 0 2\n1 4 1 0 3\n0\n2 a\n3 b\n4 c\n0\nB+\n0\nB-\n1\n0\n1\n",
+        reports: &[
+            b"ANSWER 1 2 4\nIN 1 1 a\nIN 3 1 c\nPAIR 2 3\nANSWER 2 3 4\nIN 2 2 b\nPAIR 3 3\nCOMPLETE\n",
+            b"ANSWER 1 3 4\nIN 2 1 b\nIN 3 1 c\nPAIR 2 3\nANSWER 2 2 4\nIN 1 2 a\nPAIR 3 3\nCOMPLETE\n",
+        ],
+        status: 0,
+    },
+    Case {
+        words: &["cautious"],
+        input: b"1 2 1 1 2\n0\n2 a\n0\nB+\n0\nB-\n1\n0\n1\n",
+        reports: &[b"INCOHERENT\n"],
+        status: 2,
     },
     // Two atoms that support only each other are both false.
     Case {
-        word: "cautious",
+        words: &["cautious"],
         input: b"1 2 1 0 3\n1 3 1 0 2\n0\n2 a\n3 b\n0\nB+\n0\nB-\n1\n0\n1\n",
-        output: b"ANSWER 1\nOUT 1 1 a\nOUT 2 1 b\nPAIR 0 0\nCOMPLETE\n",
+        reports: &[b"ANSWER 1\nOUT 1 1 a\nOUT 2 1 b\nPAIR 0 0\nCOMPLETE\n"],
+        status: 0,
+    },
+    // A disjunction whose atoms follow from each other.
+    Case {
+        words: &["cautious"],
+        input: b"8 2 2 3 0 0\n1 2 1 0 3\n1 3 1 0 2\n0\n2 a\n3 b\n0\nB+\n0\nB-\n1\n0\n1\n",
+        reports: &[b"ANSWER 1 2 3\nIN 1 0 a\nPAIR 1 2\nIN 2 0 b\nPAIR 2 2\nCOMPLETE\n"],
         status: 0,
     },
     Case {
-        word: "cautious",
-        input: b"1 3 1 0 2\n1 2 0 0\n0\n2 a\n3 b\n4 c\n0\nB+\n3\n0\nB-\n1\n0\n1\n",
-        output: b"ANSWER 1 2 3\nIN 1 0 a\nIN 2 0 b\nOUT 3 1 c\nPAIR 2 2\nCOMPLETE\n",
+        words: &["cautious"],
+        input: b"8 2 2 3 0 0\n0\n2 a\n3 b\n0\nB+\n0\nB-\n1\n0\n1\n",
+        reports: &[
+            b"ANSWER 1 2\nOUT 2 1 b\nPAIR 0 1\nANSWER 2 3\nOUT 1 2 a\nPAIR 0 0\nCOMPLETE\n",
+            b"ANSWER 1 3\nOUT 1 1 a\nPAIR 0 1\nANSWER 2 2\nOUT 2 2 b\nPAIR 0 0\nCOMPLETE\n",
+        ],
+        status: 0,
+    },
+    // A bound that one negative literal meets.
+    Case {
+        words: &["cautious"],
+        input: b"2 2 2 1 1 3 2\n0\n2 a\n0\nB+\n0\nB-\n1\n0\n1\n",
+        reports: &[b"ANSWER 1 2\nIN 1 0 a\nPAIR 1 1\nCOMPLETE\n"],
+        status: 0,
+    },
+    // A weight body without literals meets the bound 0.
+    Case {
+        words: &["cautious"],
+        input: b"5 2 0 0 0\n0\n2 a\n0\nB+\n0\nB-\n1\n0\n1\n",
+        reports: &[b"ANSWER 1 2\nIN 1 0 a\nPAIR 1 1\nCOMPLETE\n"],
+        status: 0,
+    },
+    // Two names of one atom.
+    Case {
+        words: &["cautious"],
+        input: b"1 2 0 0\n0\n2 p(\"x y\")\n2 q\n0\nB+\n0\nB-\n1\n0\n1\n",
+        reports: &[b"ANSWER 1 2\nIN 1 0 p(\"x y\")\nPAIR 1 2\nIN 2 0 q\nPAIR 2 2\nCOMPLETE\n"],
+        status: 0,
+    },
+    // A literal that stands twice counts twice.
+    Case {
+        words: &["cautious"],
+        input: b"2 2 2 0 2 3 3\n1 3 0 0\n0\n2 a\n0\nB+\n0\nB-\n1\n0\n1\n",
+        reports: &[b"ANSWER 1 2 3\nIN 1 0 a\nPAIR 1 1\nCOMPLETE\n"],
         status: 0,
     },
     Case {
-        word: "cautious",
+        words: &["cautious", "--budget=2187"],
+        input: b"8 2 2 3 0 0\n0\n2 a\n3 b\n0\nB+\n0\nB-\n1\n0\n1\n",
+        reports: &[
+            b"ANSWER 1 2\nOUT 2 1 b\nPAIR 0 1\nANSWER 2 3\nOUT 1 2 a\nPAIR 0 0\nCOMPLETE\n",
+            b"ANSWER 1 3\nOUT 1 1 a\nPAIR 0 1\nANSWER 2 2\nOUT 2 2 b\nPAIR 0 0\nCOMPLETE\n",
+        ],
+        status: 0,
+    },
+    Case {
+        words: &["cautious", "--strategy=reduction", "--slice=1"],
+        input: b"8 2 2 3 0 0\n0\n2 a\n3 b\n0\nB+\n0\nB-\n1\n0\n1\n",
+        reports: &[
+            b"ANSWER 1 2\nOUT 2 1 b\nPAIR 0 1\nANSWER 2 3\nOUT 1 2 a\nPAIR 0 0\nCOMPLETE\n",
+            b"ANSWER 1 3\nOUT 1 1 a\nPAIR 0 1\nANSWER 2 2\nOUT 2 2 b\nPAIR 0 0\nCOMPLETE\n",
+        ],
+        status: 0,
+    },
+    Case {
+        words: &["cautious", "--strategy=chunks"],
+        input: b"8 2 2 3 0 0\n0\n2 a\n3 b\n0\nB+\n0\nB-\n1\n0\n1\n",
+        reports: &[
+            b"ANSWER 1 2\nOUT 2 1 b\nPAIR 0 1\nANSWER 2 3\nOUT 1 2 a\nPAIR 0 0\nCOMPLETE\n",
+            b"ANSWER 1 3\nOUT 1 1 a\nPAIR 0 1\nANSWER 2 2\nOUT 2 2 b\nPAIR 0 0\nCOMPLETE\n",
+        ],
+        status: 0,
+    },
+    Case {
+        words: &["cautious", "--slice=1", "--strategy=mix"],
+        input: b"1 2 0 0\n0\n2 a\n0\nB+\n0\nB-\n1\n0\n1\n",
+        reports: &[b"ANSWER 1 2\nIN 1 0 a\nPAIR 1 1\nCOMPLETE\n"],
+        status: 0,
+    },
+    Case {
+        words: &["cautious"],
         input: b"0\n0\nB+\n2\n0\nB-\n0\n1\n",
-        output: b"INCOHERENT\n",
+        reports: &[b"INCOHERENT\n"],
         status: 2,
     },
     Case {
-        word: "careful",
-        input: FACT,
-        output: b"REFUSED 0 Words 0\n",
+        words: &["cautious"],
+        input: b"0\n1048574 a\n0\nB+\n0\nB-\n0\n1\n",
+        reports: &[b"REFUSED 0 TooManyVariables 1048576\n"],
+        status: 3,
+    },
+    Case {
+        words: &["careful"],
+        input: b"1 2 0 0\n0\n2 a\n0\nB+\n0\nB-\n1\n0\n1\n",
+        reports: &[b"REFUSED 0 Words 0\n"],
         status: 4,
     },
     Case {
-        word: "cautious",
-        input: b"1 2 1 1 2\n0\n2 a\n0\nB+\n0\nB-\n1\n0\n1\n",
-        output: b"REFUSED 0 NotYet 1\n",
-        status: 3,
+        words: &["cautious", "--budget=0"],
+        input: b"1 2 0 0\n0\n2 a\n0\nB+\n0\nB-\n1\n0\n1\n",
+        reports: &[b"REFUSED 0 Words 0\n"],
+        status: 4,
     },
     Case {
-        word: "cautious",
-        input: b"0\n65536 a\n0\nB+\n0\nB-\n0\n1\n",
-        output: b"REFUSED 0 NotYet 0\n",
-        status: 3,
-    },
-    Case {
-        word: "cautious",
+        words: &["cautious"],
         input: b"1 2 3 1 3",
-        output: b"REFUSED 1 EndOfInput 9\n",
+        reports: &[b"REFUSED 1 EndOfInput 9\n"],
         status: 3,
     },
     Case {
-        word: "cautious",
+        words: &["cautious"],
+        input: b"6 0 1 0 2 1\n",
+        reports: &[b"REFUSED 1 MinimizeRule 6\n"],
+        status: 3,
+    },
+    Case {
+        words: &["cautious"],
         input: b"0\n0\nB+\n0\nB-\n0\nE\n",
-        output: b"REFUSED 7 ExternalSection 69\n",
+        reports: &[b"REFUSED 7 ExternalSection 69\n"],
         status: 3,
     },
 ];
 
-fn words_of(alloc: Global, word: &str) -> Result<Vec<String>, AllocError> {
-    let mut words = Vec::new(alloc);
-    words.push(String::from_str(alloc, word)?)?;
-    Ok(words)
+fn words_of(alloc: Global, words: &[&str]) -> Result<Vec<String>, AllocError> {
+    let mut all = Vec::new(alloc);
+    for word in words {
+        all.push(String::from_str(alloc, word)?)?;
+    }
+    Ok(all)
 }
 
 fn ends_as(alloc: Global, row: &Case) -> Result<bool, AllocError> {
-    let words = words_of(alloc, row.word)?;
+    let words = words_of(alloc, row.words)?;
     let mut source = SteadySource::open(Vec::from_slice(alloc, row.input)?);
     let mut sink = SteadySink::open(alloc, 4096)?;
     let ended = run(alloc, &words, &mut source, &mut sink);
-    Ok(ended.status == row.status && sink.written() == row.output)
+    let written = sink.written();
+    Ok(ended.status == row.status && row.reports.iter().any(|report| written == *report))
 }
 
 // How a run on the fact ends whose write of this number fails, with what was written.
 fn stops_at(alloc: Global, number: u64) -> Result<(u8, Vec<u8>), AllocError> {
-    let words = words_of(alloc, "cautious")?;
+    let words = words_of(alloc, &["cautious"])?;
     let mut source = SteadySource::open(Vec::from_slice(alloc, FACT)?);
     let mut sink = MemorySink::open(alloc, 4096, 4096, vec![in alloc; number]?)?;
     let ended = run(alloc, &words, &mut source, &mut sink);
@@ -106,7 +211,7 @@ fn stops_at(alloc: Global, number: u64) -> Result<(u8, Vec<u8>), AllocError> {
 
 // How a run on the fact ends whose read of this number fails, one byte a read.
 fn reads_until(alloc: Global, number: u64) -> Result<(u8, Vec<u8>), AllocError> {
-    let words = words_of(alloc, "cautious")?;
+    let words = words_of(alloc, &["cautious"])?;
     let mut source = MemorySource::open(Vec::from_slice(alloc, FACT)?, 1, vec![in alloc; number]?);
     let mut sink = SteadySink::open(alloc, 4096)?;
     let ended = run(alloc, &words, &mut source, &mut sink);

@@ -1,0 +1,5 @@
+pub mod Answers
+pub mod Agreed
+pub mod Progress
+pub mod Way
+pub mod Ending
