@@ -14,7 +14,7 @@ use Rattle.normal_program.specs.declared.normal.Normal.{Normal}
 use Rattle.master_record.specs.Told.{sizes_of}
 use Rattle.master_record.specs.Verdicts.{AreSpent}
 use Rattle.query_run.specs.Ending.{HasEnded, IsSpentEnd}
-use Rattle.query_run.specs.Way.{Way, sizes_before}
+use Rattle.query_run.specs.Way.{Left, sizes_before}
 
 module _ {K : Type 0} {written : K → Option (List ℕ)} {faults : K → ℕ} {names : List Named}
     {status : ℕ} {spent : List SpentTest} where
@@ -44,15 +44,15 @@ module _ {K : Type 0} {written : K → Option (List ℕ)} {faults : K → ℕ} {
 
 -- an end by the parts of a run is one by what contracts see of it
 pub spent_end : {K E : Type 0} {written : K → Option (List ℕ)} {faults : K → ℕ} {old new : K}
-    {result : Result Ended E} (way : Way) (tests : ℕ → List Line) (spent : List SpentTest)
+    {result : Result Ended E} (left : Left) (tests : ℕ → List Line) (spent : List SpentTest)
     (normal : Normal) (budget : ℕ) (sized : Bool) (lower upper : ℕ)
-    → way.books.normal ≡ normal → way.books.budget ≡ budget → way.sized ≡ sized
-    → (sizes_of way.books.pair).lower ≡ lower → (sizes_of way.books.pair).upper ≡ upper
-    → AreSpent way.books spent
+    → left.books.normal ≡ normal → left.books.budget ≡ budget → left.sized ≡ sized
+    → (sizes_of left.books.pair).lower ≡ lower → (sizes_of left.books.pair).upper ≡ upper
+    → AreSpent left.books spent
     → HasEnded written faults old new normal.names
     (sizes_before sized lower upper ++ (tests budget ++ Partial ∷ [])) 1 spent result
-    → IsSpentEnd written faults old new way (tests way.books.budget) result
-spent_end {written = written} {faults = faults} {old = old} {new = new} {result = result} way tests
+    → IsSpentEnd written faults old new left (tests left.books.budget) result
+spent_end {written = written} {faults = faults} {old = old} {new = new} {result = result} left tests
     spent normal budget sized lower upper same_normal same_budget same_sized same_lower same_upper are
     ended = record {
       spent = spent;

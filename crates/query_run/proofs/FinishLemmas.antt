@@ -24,7 +24,7 @@ use Rattle.master_record.specs.Verdicts.{IsVerdict}
 use Rattle.query_run.specs.declared.answering.Ended.{Ended}
 use Rattle.query_run.specs.Answers.{Answers, Ends}
 use Rattle.query_run.specs.Ending.{HasEnded, HasEndedPartial, HasFinished, IsSpentEnd}
-use Rattle.query_run.specs.Way.{Begins, HasReached, HasStopped, IsOnWay, Stands, Way, first_sizes}
+use Rattle.query_run.specs.Way.{Begins, HasReached, HasStopped, IsOnWay, Stands, Way, first_sizes, left_of}
 use Rattle.query_run.proofs.AnswerLemmas.{answers_complete, answers_incoherent, answers_no_memory}
 use Rattle.query_run.proofs.AnswerLemmas.{answers_open, answers_unknown}
 
@@ -99,7 +99,7 @@ module _ {K : Type 0} (written : K → Option (List ℕ)) (faults : K → ℕ) (
         (legal_by reached.told reached.legal)))
 
     partly : Stands reached.told last → IsOnWay last → IsVerdict last.books verdicts.Partial
-        → HasEndedPartial written faults mid sink last result
+        → HasEndedPartial written faults mid sink (left_of last) result
         → Ends written faults start sink (Answers program settings) result
     partly stands on is (inl (unanswered, end)) =
         ended_behind (first_sizes last ++ ((lines.Unknown last.books.budget ∷ []) ++ lines.Partial ∷ []))
@@ -116,7 +116,7 @@ module _ {K : Type 0} (written : K → Option (List ℕ)) (faults : K → ℕ) (
     partly stands on is (inr (inr ended)) = lost ended
 
     by_verdict : (other : Verdict) → HasStopped reached.told other last
-        → HasFinished written faults mid sink last other result
+        → HasFinished written faults mid sink (left_of last) other result
         → Ends written faults start sink (Answers program settings) result
     by_verdict verdicts.Complete (inl is_lost) end = cc
     by_verdict verdicts.Complete (inr (stands, on, is)) end =
@@ -133,6 +133,6 @@ module _ {K : Type 0} (written : K → Option (List ℕ)) (faults : K → ℕ) (
     by_verdict verdicts.NoMemory stopped end = lost end
     by_verdict verdicts.Running stopped end = lost end
 
-    pub ends_finished : HasFinished written faults mid sink last verdict result
+    pub ends_finished : HasFinished written faults mid sink (left_of last) verdict result
         → Ends written faults start sink (Answers program settings) result
     ends_finished end = by_verdict verdict reached.stopped end

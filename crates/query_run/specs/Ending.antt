@@ -11,7 +11,7 @@ use Rattle.master_record.specs.declared.verdict.Verdict.TheVariants as verdicts
 use Rattle.master_record.specs.Books.{open_list}
 use Rattle.master_record.specs.Verdicts.{AreSpent}
 use Rattle.query_run.specs.declared.answering.Ended.{Ended}
-use Rattle.query_run.specs.Way.{Way, first_sizes}
+use Rattle.query_run.specs.Way.{Left, last_sizes}
 
 -- the last lines were written, and a status and spent tests given
 pub record HasEnded {K E : Type 0} (written : K → Option (List ℕ)) (faults : K → ℕ)
@@ -22,41 +22,41 @@ pub record HasEnded {K E : Type 0} (written : K → Option (List ℕ)) (faults :
 
 -- the tests on which PARTIAL rests were given, and the lines that name them written
 pub record IsSpentEnd {K E : Type 0} (written : K → Option (List ℕ)) (faults : K → ℕ)
-    (sink_old sink_new : K) (way : Way) (tests : List Line) (result : Result Ended E) :
+    (sink_old sink_new : K) (left : Left) (tests : List Line) (result : Result Ended E) :
     Type 0 where
   pub spent : List SpentTest
-  pub are : AreSpent way.books spent
+  pub are : AreSpent left.books spent
   pub ended :
-      HasEnded written faults sink_old sink_new way.books.normal.names
-      (first_sizes way ++ (tests ++ lines.Partial ∷ [])) 1 spent result
+      HasEnded written faults sink_old sink_new left.books.normal.names
+      (last_sizes left ++ (tests ++ lines.Partial ∷ [])) 1 spent result
 
 -- the test of coherence was spent, or the own tests of all open candidates; or memory ran out
-abbrev pub HasEndedPartial : {K E : Type 0} → (K → Option (List ℕ)) → (K → ℕ) → K → K → Way
+abbrev pub HasEndedPartial : {K E : Type 0} → (K → Option (List ℕ)) → (K → ℕ) → K → K → Left
     → Result Ended E → Type 0
-HasEndedPartial written faults sink_old sink_new way result =
-    ((way.books.answers ≡ 0)
-    × IsSpentEnd written faults sink_old sink_new way
-    (lines.Unknown way.books.budget ∷ []) result)
-    ⊎ (((1 ≤ way.books.answers)
-    × IsSpentEnd written faults sink_old sink_new way
-    (map (λ cand. lines.Unsettled cand way.books.budget) (open_list way.books)) result)
-    ⊎ HasEnded written faults sink_old sink_new way.books.normal.names (lines.NoMemory ∷ []) 7 []
+HasEndedPartial written faults sink_old sink_new left result =
+    ((left.books.answers ≡ 0)
+    × IsSpentEnd written faults sink_old sink_new left
+    (lines.Unknown left.books.budget ∷ []) result)
+    ⊎ (((1 ≤ left.books.answers)
+    × IsSpentEnd written faults sink_old sink_new left
+    (map (λ cand. lines.Unsettled cand left.books.budget) (open_list left.books)) result)
+    ⊎ HasEnded written faults sink_old sink_new left.books.normal.names (lines.NoMemory ∷ []) 7 []
     result)
 
 -- the end of a run with this verdict
-abbrev pub HasFinished : {K E : Type 0} → (K → Option (List ℕ)) → (K → ℕ) → K → K → Way
+abbrev pub HasFinished : {K E : Type 0} → (K → Option (List ℕ)) → (K → ℕ) → K → K → Left
     → Verdict → Result Ended E → Type 0
-HasFinished written faults sink_old sink_new way verdicts.Complete result =
-    HasEnded written faults sink_old sink_new way.books.normal.names
-    (first_sizes way ++ lines.Complete ∷ []) 0 [] result
-HasFinished written faults sink_old sink_new way verdicts.Partial result =
-    HasEndedPartial written faults sink_old sink_new way result
-HasFinished written faults sink_old sink_new way verdicts.Incoherent result =
-    HasEnded written faults sink_old sink_new way.books.normal.names (lines.Incoherent ∷ []) 2 []
+HasFinished written faults sink_old sink_new left verdicts.Complete result =
+    HasEnded written faults sink_old sink_new left.books.normal.names
+    (last_sizes left ++ lines.Complete ∷ []) 0 [] result
+HasFinished written faults sink_old sink_new left verdicts.Partial result =
+    HasEndedPartial written faults sink_old sink_new left result
+HasFinished written faults sink_old sink_new left verdicts.Incoherent result =
+    HasEnded written faults sink_old sink_new left.books.normal.names (lines.Incoherent ∷ []) 2 []
     result
-HasFinished written faults sink_old sink_new way verdicts.NoMemory result =
-    HasEnded written faults sink_old sink_new way.books.normal.names (lines.NoMemory ∷ []) 7 []
+HasFinished written faults sink_old sink_new left verdicts.NoMemory result =
+    HasEnded written faults sink_old sink_new left.books.normal.names (lines.NoMemory ∷ []) 7 []
     result
-HasFinished written faults sink_old sink_new way verdicts.Running result =
-    HasEnded written faults sink_old sink_new way.books.normal.names (lines.NoMemory ∷ []) 7 []
+HasFinished written faults sink_old sink_new left verdicts.Running result =
+    HasEnded written faults sink_old sink_new left.books.normal.names (lines.NoMemory ∷ []) 7 []
     result

@@ -104,6 +104,20 @@ pub record HasReached {K E : Type 0} (written : K → Option (List ℕ)) (faults
   pub same : IsSameRun old.books new.books
   pub stopped : IfOk result (λ verdict. HasStopped told verdict new)
 
+-- what is left of a run when its worker is gone: the record, and whether a PAIR line was written
+pub record Left : Type 0 where
+  pub books : Books
+  pub sized : Bool
+
+-- what a run leaves
+abbrev pub left_of : Way → Left
+left_of way = record { books = way.books; sized = way.sized }
+
+-- the PAIR line before a verdict, where there was none
+abbrev pub last_sizes : Left → List Line
+last_sizes left =
+    sizes_before left.sized (sizes_of left.books.pair).lower (sizes_of left.books.pair).upper
+
 -- the PAIR line before a verdict, where there was none
 abbrev pub first_sizes : Way → List Line
 first_sizes way =

@@ -59,7 +59,9 @@ impl Rounds<'_> {
         let _ = program;
         let _ = settings;
         let mut rounds = self;
-        let verdict = rounds.to_verdict(alloc, sink)?;
-        rounds.finish(alloc, verdict, sink)
+        let reached = rounds.to_verdict(alloc, sink);
+        let rest = rounds.rest();
+        let verdict = reached?;
+        rest.finish(alloc, verdict, sink)
     }
 }

@@ -5,11 +5,11 @@ ghost use Rattle.ground_program.specs.Bounds.{IsCandidate};
 ghost use Rattle.report.specs.Text.{NamesCandidate, text_of_lines};
 ghost use Rattle.report.specs.declared.lines.Line.TheVariants.{Complete, Partial, Unknown, Unsettled};
 ghost use Rattle.master_record.specs.Books.{open_list};
-ghost use Rattle.query_run.specs.Way.{first_sizes, sizes_before};
+ghost use Rattle.query_run.specs.Way.{last_sizes, sizes_before};
 ghost use Rattle.query_run.specs.Ending.{HasEnded, HasEndedPartial, HasFinished, IsSpentEnd};
 
 use crate::answering::Ended;
-use crate::rounds::Rounds;
+use crate::rest::Rest;
 use crate::telling::{write_first_sizes, write_open};
 use byte_edges::{Sink, WriteFault};
 use ground_program::Names;
@@ -19,7 +19,7 @@ use normal_program::Tests;
 use report::{Line, write_line};
 use std::alloc::Global;
 
-impl Rounds<'_> {
+impl Rest<'_> {
     /// Writes the lines of a verdict. A run that isn't decided ran out of memory.
     pub(crate) fn finish<K: Sink>(
         self,
@@ -41,7 +41,7 @@ impl Rounds<'_> {
     /// Every candidate is settled.
     fn end_complete<K: Sink>(self, sink: &mut K) -> Result<Ended, WriteFault>
         ensures { HasEnded K.written K.faults sink.old sink.new self.entry.books.normal.names
-            (first_sizes self.entry ++ Complete ∷ []) 0 [] result }
+            (last_sizes self.entry ++ Complete ∷ []) 0 [] result }
     {
         write_complete(self.sized, self.master.sizes(), &self.normal.names, sink)
     }

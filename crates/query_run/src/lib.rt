@@ -4,6 +4,7 @@
 
 mod answering;
 mod ending;
+mod rest;
 mod rounds;
 mod telling;
 mod turning;
