@@ -1,6 +1,6 @@
 #!/usr/bin/env bash
 # Times the built program (crates/wasp2/out/wasp2, made by `rt run` there): 65,535 facts, and 64 MB of mixed rules,
-# which are read whole and then refused with NotYet.
+# which are read whole and then refused with TooManyVariables.
 set -eu
 cd "$(dirname "$0")/.."
 program=crates/wasp2/out/wasp2

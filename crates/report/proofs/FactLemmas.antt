@@ -1,17 +1,19 @@
--- The program of one fact, with one name, has one answer set, so its report is legal.
-use Rattle.std.proofs.Common.{◌≡◌, ◌<◌, ℕ, zero, suc, Bool, true, false, List, [], ◌∷◌, length}
-use Rattle.std.proofs.Common.{get_or, refl, arith}
-use Rattle.std.specs.Prelude.{All}
-use Rattle.std.proofs.lemmas.Option.{get_or_from_slice_get}
+-- The program of one fact, with one name, has an answer set and a legal report that says so.
+use Rattle.std.proofs.Common.{◌≡◌, ◌<◌, ◌⊎◌, ℕ, zero, suc, Bool, true, false, List, [], ◌∷◌}
+use Rattle.std.proofs.Common.{length, get_or, refl, inl, inr, arith}
+use Rattle.std.specs.Prelude.{All, Any}
 use Rattle.ground_program.specs.declared.program.Mode.TheVariants.{Cautious}
 use Rattle.ground_program.specs.declared.program.Kind.TheVariants.{Basic}
 use Rattle.ground_program.specs.declared.program.Rule.{Rule}
 use Rattle.ground_program.specs.declared.program.Program.{Program}
 use Rattle.ground_program.specs.Meaning.{IsAnswerSet, IsProperSubset, Keeps, SomeFails, has, IsIn}
+use Rattle.ground_program.specs.Bounds.{IsCandidate, IsConsequence}
+use Rattle.report.specs.declared.lines.Line.{Line}
 use Rattle.report.specs.declared.lines.Line.TheVariants.{Answer, SettledIn, Sizes, Complete}
-use Rattle.report.specs.Legal.{IsLegalReport}
-use Rattle.report.specs.OneSet.{IsOnlyAnswerSet}
-use Rattle.report.proofs.OneSetLemmas.{legal_one_set}
+use Rattle.report.specs.Legal.{IsLegalReport, IsLegalSoFar, IsComplete, IsOpen, IsSettled}
+use Rattle.report.specs.Legal.{Settles}
+use Rattle.report.proofs.LegalLemmas.{Any-last, so_far_none, so_far_then, legal_complete}
+use Rattle.report.proofs.LegalLemmas.{inside_unwatched, watched_unwatched}
 
 -- the rule of one head, atom 2, and no body
 abbrev pub fact : Rule
@@ -83,18 +85,66 @@ fact_answers = record {
   least = fact_fails;
 }
 
--- and there is no other
-pub fact_only : IsOnlyAnswerSet one_fact fact_set
-fact_only = record {
-  answer_set = fact_answers;
-  only = λ other answers. same_set other answers.over.positions
-      (λ in_zero. let first : get_or other 0 false ≡ false =
-      get_or_from_slice_get other 0 false false answers.over.no_atom in cc)
-      (answers.compute.must_not 0 0 (omega arith))
-      (has_fact other other (answers.keeps 0 fact (omega arith)));
+-- its lines so far: the answer set, the candidate, the sizes
+abbrev pub fact_lines : List Line
+fact_lines = Answer 1 fact_set ∷ SettledIn 1 0 ∷ Sizes 1 1 ∷ []
+
+-- the candidate is a consequence
+fact_follows : IsConsequence one_fact Cautious 1
+fact_follows other answers = has_fact other other (answers.keeps 0 fact (omega arith))
+
+-- no line settles it before its own
+fact_open : IsOpen one_fact.names (Answer 1 fact_set ∷ []) 1
+fact_open = record {
+  candidate = record { first = omega arith; last = omega arith };
+  unsettled = λ settled. no_answer (Any-last (Settles 1) [] (Answer 1 fact_set) settled);
+}
+  where
+    no_answer : Any (Settles 1) [] ⊎ ⊥ → ⊥
+    no_answer (inl (k, x, inside, is, holds)) = absurd (omega (arith, inside))
+    no_answer (inr never) = never
+
+-- it is the only one, and its line settles it
+fact_settles : (after : List Line) (cand : ℕ) → IsCandidate one_fact.names cand
+    → IsSettled (Answer 1 fact_set ∷ SettledIn 1 0 ∷ after) cand
+fact_settles after cand candidate =
+    let same : 1 ≡ cand = omega (arith, candidate.first, candidate.last) in
+    (1, SettledIn 1 0, omega arith, refl, same)
+
+-- each line may stand behind those before it
+fact_so_far : IsLegalSoFar one_fact Cautious 0 fact_lines
+fact_so_far =
+    so_far_then one_fact Cautious 0 (Answer 1 fact_set ∷ SettledIn 1 0 ∷ []) (Sizes 1 1)
+    (so_far_then one_fact Cautious 0 (Answer 1 fact_set ∷ []) (SettledIn 1 0)
+    (so_far_then one_fact Cautious 0 [] (Answer 1 fact_set) (so_far_none one_fact Cautious 0)
+    (record { counted = refl; answer_set = fact_answers; news = inl refl }))
+    (record { unsettled = fact_open; consequence = fact_follows; named = refl }))
+    (record {
+      lower = refl;
+      upper = refl;
+      shown = λ cand by candidate shown. fact_settles [] cand candidate;
+      news = λ same. cc;
+    })
+
+-- every candidate is settled
+fact_complete : IsComplete one_fact 0 fact_lines
+fact_complete = record {
+  answered = omega arith;
+  settled = fact_settles (Sizes 1 1 ∷ []);
+  sized = record {
+    before = Answer 1 fact_set ∷ SettledIn 1 0 ∷ [];
+    after = [];
+    sizes = record { lower = 1; upper = 1 };
+    parts = refl;
+    settled_in = refl;
+    settled_out = refl;
+  };
+  watched = watched_unwatched fact_lines;
 }
 
 -- so this report is legal
 pub legal_fact : (budget : ℕ) → IsLegalReport one_fact Cautious 0 budget
     (Answer 1 fact_set ∷ SettledIn 1 0 ∷ Sizes 1 1 ∷ Complete ∷ [])
-legal_fact budget = legal_one_set one_fact fact_set budget fact_only
+legal_fact budget =
+    legal_complete one_fact Cautious 0 budget fact_lines fact_so_far (inside_unwatched fact_lines)
+    fact_complete

@@ -1,11 +1,10 @@
 -- Legal reports grow line by line, and end in a verdict.
-use Rattle.std.proofs.Common.{◌≡◌, ◌⊎◌, ℕ, zero, suc, Bool, List, [], ◌∷◌, ◌++◌, refl, sym, ◌∙◌, ap}
-use Rattle.std.proofs.Common.{subst, inl, inr, arith, append_assoc, length-append}
+use Rattle.std.proofs.Common.{◌≡◌, ◌⊎◌, ℕ, zero, suc, List, [], ◌∷◌, ◌++◌, refl, sym, ◌∙◌, ap}
+use Rattle.std.proofs.Common.{subst, inl, inr, arith, length-append}
 use Rattle.std.proofs.Math.ListN.{get_or-append}
 use Rattle.std.specs.Prelude.{Any}
 use Rattle.ground_program.specs.declared.program.Mode.{Mode}
 use Rattle.ground_program.specs.declared.program.Program.{Program}
-use Rattle.ground_program.specs.Meaning.{IsAnswerSet}
 use Rattle.report.specs.declared.lines.Line.{Line}
 use Rattle.report.specs.declared.lines.Line.TheVariants.{Complete, Partial, Incoherent, NoMemory}
 use Rattle.report.specs.Legal.{IsLegalLine, IsLegalSoFar, IsLegalReport, IsIncoherent, IsComplete}
@@ -69,15 +68,6 @@ module _ (program : Program) (mode : Mode) (watch : ℕ) where
         ];
   }
 
-  -- a beginning of a beginning is one
-  pub so_far_front : (front rest : List Line) → IsLegalSoFar program mode watch (front ++ rest)
-      → IsLegalSoFar program mode watch front
-  so_far_front front rest so_far = record {
-    each = λ before after item e.
-        so_far.each before (after ++ rest) item
-        (ap (λ (xs : List Line). xs ++ rest) e ∙ append_assoc before (item ∷ after) rest);
-  }
-
   module _ (budget : ℕ) (body : List Line) (so_far : IsLegalSoFar program mode watch body)
       (inside : KeepsInside watch body) where
     -- where every candidate is settled, COMPLETE makes a report
@@ -137,11 +127,3 @@ inside_unwatched lines = λ watcher known. absurd (omega (arith, known.first, kn
 
 pub watched_unwatched : (lines : List Line) → EachWatched 0 lines
 watched_unwatched lines = λ watcher known. absurd (omega (arith, known.first, known.last))
-
--- a program with no answer set has a report at once, where nobody watches
-pub legal_incoherent_at_once : (program : Program) (mode : Mode) (budget : ℕ)
-    → ((set : List Bool) → ¬ IsAnswerSet program set)
-    → IsLegalReport program mode 0 budget (Incoherent ∷ [])
-legal_incoherent_at_once program mode budget none =
-    legal_incoherent program mode 0 budget [] (so_far_none program mode 0) (inside_unwatched [])
-    (record { none = none; watched = watched_unwatched [] })

@@ -14,7 +14,7 @@ use Rattle.report.specs.declared.lines.Why.TheVariants.{NotANumber, UnknownKind,
 use Rattle.report.specs.declared.lines.Why.TheVariants.{AtomZero, NumberTooLarge, NegativeCount}
 use Rattle.report.specs.declared.lines.Why.TheVariants.{MissingMark, ExternalSection, NameMissing}
 use Rattle.report.specs.declared.lines.Why.TheVariants.{EndOfInput, TrailingText, TooLong}
-use Rattle.report.specs.declared.lines.Why.TheVariants.{ReadFault, TooManyVariables, Words, NotYet}
+use Rattle.report.specs.declared.lines.Why.TheVariants.{ReadFault, TooManyVariables, Words}
 
 -- the name of a candidate
 abbrev pub name_of : List Named → ℕ → List ℕ
@@ -51,7 +51,6 @@ text_of_why TooLong = codes "TooLong"
 text_of_why ReadFault = codes "ReadFault"
 text_of_why TooManyVariables = codes "TooManyVariables"
 text_of_why Words = codes "Words"
-text_of_why NotYet = codes "NotYet"
 
 -- the text of a line without its line feed
 abbrev pub words_of_line : List Named → Line → List ℕ

@@ -34,8 +34,6 @@ pub enum Why {
     TooManyVariables,
     /// The words of the call are none of those that are taken.
     Words,
-    /// The input has a form that isn't built yet.
-    NotYet,
 }
 
 /// One line of a report. Candidates, answer sets and watchers have numbers from 1.

@@ -196,6 +196,5 @@ fn text_of(why: Why) -> &'static [u8]
         Why::ReadFault => b"ReadFault",
         Why::TooManyVariables => b"TooManyVariables",
         Why::Words => b"Words",
-        Why::NotYet => b"NotYet",
     }
 }

@@ -82,7 +82,6 @@ why_again whys.TooLong = refl
 why_again whys.ReadFault = refl
 why_again whys.TooManyVariables = refl
 why_again whys.Words = refl
-why_again whys.NotYet = refl
 
 -- whether a text has no such byte
 abbrev lacks : ℕ → List ℕ → Bool
@@ -130,7 +129,6 @@ why_plain whys.TooLong = refl
 why_plain whys.ReadFault = refl
 why_plain whys.TooManyVariables = refl
 why_plain whys.Words = refl
-why_plain whys.NotYet = refl
 
 -- a word has no blank and no line feed
 pub word_lacks_blank : (word : Word) → Lacks 32 (text_of_word word)

@@ -10,7 +10,7 @@ use Rattle.report.specs.declared.lines.Why.TheVariants.{NotANumber, UnknownKind,
 use Rattle.report.specs.declared.lines.Why.TheVariants.{AtomZero, NumberTooLarge, NegativeCount}
 use Rattle.report.specs.declared.lines.Why.TheVariants.{MissingMark, ExternalSection, NameMissing}
 use Rattle.report.specs.declared.lines.Why.TheVariants.{EndOfInput, TrailingText, TooLong}
-use Rattle.report.specs.declared.lines.Why.TheVariants.{ReadFault, TooManyVariables, Words, NotYet}
+use Rattle.report.specs.declared.lines.Why.TheVariants.{ReadFault, TooManyVariables, Words}
 use Rattle.report.specs.declared.lines.Line.{Line}
 use Rattle.report.specs.declared.lines.Line.TheVariants as lines
 use Rattle.report.specs.Text.{name_of, field, text_of_why}
@@ -149,7 +149,7 @@ abbrev pub all_whys : List Why
 all_whys =
     NotANumber ∷ UnknownKind ∷ MinimizeRule ∷ AtomZero ∷ NumberTooLarge ∷ NegativeCount
     ∷ MissingMark ∷ ExternalSection ∷ NameMissing ∷ EndOfInput ∷ TrailingText ∷ TooLong
-    ∷ ReadFault ∷ TooManyVariables ∷ Words ∷ NotYet ∷ []
+    ∷ ReadFault ∷ TooManyVariables ∷ Words ∷ []
 
 -- the refusal whose word this is
 unfoldable pub why_at : List ℕ → Option Why

@@ -105,8 +105,5 @@ pub fn why_of_text(text: &[u8]) -> Option<Why>
     if text == b"Words".as_slice() {
         return Some(Why::Words);
     }
-    if text == b"NotYet".as_slice() {
-        return Some(Why::NotYet);
-    }
     None
 }

@@ -144,7 +144,7 @@ fn each_run_ends_in_its_words(rt: HostRuntime) -> Result<(), Fail> {
     expect(&rt, alloc, &names, &Line::Partial, "PARTIAL\n")?;
     expect(&rt, alloc, &names, &Line::Incoherent, "INCOHERENT\n")?;
     expect(&rt, alloc, &names, &Line::NoMemory, "NOMEMORY\n")?;
-    let refusals: [(u32, Why, u64, &str); 16] = [
+    let refusals: [(u32, Why, u64, &str); 15] = [
         (1, Why::NotANumber, 120, "REFUSED 1 NotANumber 120\n"),
         (1, Why::UnknownKind, 4, "REFUSED 1 UnknownKind 4\n"),
         (1, Why::MinimizeRule, 6, "REFUSED 1 MinimizeRule 6\n"),
@@ -175,7 +175,6 @@ fn each_run_ends_in_its_words(rt: HostRuntime) -> Result<(), Fail> {
             "REFUSED 0 TooManyVariables 1048576\n",
         ),
         (0, Why::Words, 0, "REFUSED 0 Words 0\n"),
-        (0, Why::NotYet, 0, "REFUSED 0 NotYet 0\n"),
     ];
     for (line, why, value, want) in refusals {
         expect(

@@ -1,3 +1,0 @@
-pub mod Definite
-pub mod Candidate
-pub mod Rounds
