@@ -1,29 +1,9 @@
-// The program: the real words, input and output, and the call that does all the work.
+// The program: a run on the real words, input and output.
 #![tactic(auto)]
 
-use byte_edges::{StdSink, StdSource};
 use std::process::ExitCode;
-use std::{env, io};
-use wasp2_run::run;
-
-// The status of a run that ended for want of memory.
-const NO_MEMORY: u8 = 7;
+use wasp2_run::run_here;
 
 fn main(rt: HostRuntime) -> ExitCode {
-    let Ok(words) = words_of(&rt) else {
-        return ExitCode::from(NO_MEMORY);
-    };
-    let mut source = StdSource::open(rt.stdin());
-    let mut sink = StdSink::open(rt.stdout());
-    let ended = run(rt.alloc(), &words, &mut source, &mut sink);
-    ExitCode::from(ended.status)
-}
-
-// The words behind the program's own name.
-fn words_of(rt: &HostRuntime) -> io::Result<Vec<String>> {
-    let mut words = Vec::new(rt.alloc());
-    for word in env::args(rt)?.skip(1) {
-        words.push(word)?;
-    }
-    Ok(words)
+    run_here(&rt)
 }

@@ -1,0 +1,9 @@
+// The stored run of an example: what is written for examples/configuration.lp.
+#![tactic(auto)]
+
+use std::process::ExitCode;
+use wasp2_run::run_here;
+
+fn main(rt: HostRuntime) -> ExitCode {
+    run_here(&rt)
+}
