@@ -17,3 +17,4 @@ pub mod ReachedLemmas
 pub mod FinishLemmas
 pub mod EndLemmas
 pub mod BeginLemmas
+pub mod BudgetLemmas

@@ -1,4 +1,5 @@
 pub mod Answers
+pub mod Budget
 pub mod Agreed
 pub mod Progress
 pub mod Way

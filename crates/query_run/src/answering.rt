@@ -1,9 +1,10 @@
 // The answer to a query.
-ghost use Rattle.std.specs.Prelude.{◌≡◌, []};
+ghost use Rattle.std.specs.Prelude.{◌≡◌, [], IfOk};
 ghost use Rattle.normal_program.specs.Limit.{IsNormal};
 ghost use Rattle.normal_program.specs.Normal.{IsNormalFormOf};
 ghost use Rattle.run_words.specs.Words.{AreSettings, IsAlone};
 ghost use Rattle.query_run.specs.Answers.{Answers, Ends};
+ghost use Rattle.query_run.specs.Budget.{IsDecidedBy};
 ghost use Rattle.query_run.specs.Way.{Begins};
 
 use crate::ending::end_plainly;
@@ -36,7 +37,10 @@ pub fn answer_query<K: Sink>(
     requires normal { IsNormal normal.now }
     requires settings { AreSettings settings.now }
     requires alone { IsAlone settings.now }
-    ensures { Ends K.written K.faults sink.old sink.new (Answers program.now settings.now) result }
+    ensures report { Ends K.written K.faults sink.old sink.new (Answers program.now settings.now)
+        result }
+    ensures decided { IfOk result
+        (λ told. IsDecidedBy program.now settings.now.budget told.status) }
 {
     match Rounds::open(alloc, normal, settings) {
         Ok(rounds) => rounds.answer(alloc, program, settings, sink),

@@ -1,6 +1,6 @@
 -- Which row of the table a run comes to.
 use Rattle.std.proofs.Common.{◌≡◌, ◌≢◌, ℕ, List, [], Option, Some, None, Ok, Err}
-use Rattle.std.proofs.Common.{refl, sym, subst, arith, ⊎_elim, inl, inr}
+use Rattle.std.proofs.Common.{ap, refl, sym, subst, arith, ⊎_elim, inl, inr}
 use Rattle.byte_edges.specs.Faults.{Rose}
 use Rattle.ground_program.specs.declared.program.Program.{Program}
 use Rattle.lparse_reader.specs.Refuses.{IsOutcome, IsOfSomeText}
@@ -15,8 +15,9 @@ use Rattle.rule_normaliser.specs.declared.error.NormalError.TheVariants as sizes
 use Rattle.report.specs.declared.lines.Line.TheVariants as lines
 use Rattle.report.specs.Text.{text_of_line}
 use Rattle.run_words.specs.declared.task.Settings.{Settings}
+use Rattle.run_words.specs.declared.task.Task.{Task}
 use Rattle.run_words.specs.declared.task.Task.TheVariants.{Query}
-use Rattle.run_words.specs.Words.{Orders}
+use Rattle.run_words.specs.Words.{OneIsOrdered, Orders}
 use Rattle.query_run.specs.Answers.{Answers, complete, partial, incoherent}
 use Rattle.query_run.specs.Answers as answers
 use Rattle.report.specs.declared.lines.Why.TheVariants as whys
@@ -181,6 +182,17 @@ ran_more written faults One More old new status spent more ran = record {
       ))
       ran.ends;
 }
+
+-- the settings of a task
+abbrev settings_in : Task → Settings
+settings_in (Query settings) = settings
+
+-- what is so by the settings that words order is so by all that they order
+pub by_ordered : (words : List (List ℕ)) (P : Settings → Type 0) → OneIsOrdered
+    → (settings : Settings) → Orders words (Query settings) → P settings
+    → (other : Settings) → Orders words (Query other) → P other
+by_ordered words P one settings orders has other also =
+    subst P (ap settings_in (one words (Query settings) (Query other) orders also)) has
 
 -- the row of words that order a query
 pub ran_query : {K : Type 0} (written : K → Option (List ℕ)) (faults : K → ℕ)

@@ -1,5 +1,5 @@
 -- What a run may write for its words and its input, and the status with which it ends.
-use Rattle.std.specs.Prelude.{◌≡◌, ◌≤◌, ◌<◌, ◌⊎◌, ℕ, List, [], ◌∷◌, ◌++◌, Option}
+use Rattle.std.specs.Prelude.{◌≡◌, ◌≤◌, ◌<◌, ◌⊎◌, ℕ, List, [], Option}
 use Rattle.std.specs.Prelude.{length, take, IfSome}
 use Rattle.byte_edges.specs.Faults.{Rose}
 use Rattle.byte_edges.specs.Edges.{Appended}
@@ -23,6 +23,7 @@ use Rattle.run_words.specs.declared.task.Task.{Task}
 use Rattle.run_words.specs.declared.task.Task.TheVariants.{Query}
 use Rattle.run_words.specs.Words.{Orders}
 use Rattle.query_run.specs.Answers.{Answers}
+use Rattle.query_run.specs.Budget.{IsDecidedBy}
 
 -- an input isn't too long
 abbrev pub IsShort : List ℕ → Type 0
@@ -153,3 +154,10 @@ abbrev pub IsAnsweredBy : ℕ → ℕ → ℕ → ℕ → ℕ → List ℕ → T
 IsAnsweredBy status read_before read_now write_before write_now input =
     IsAccepted input
     → IsAnswer status ⊎ (Rose read_before read_now ⊎ Rose write_before write_now)
+
+-- and one that decides its program where the budget is ample for it
+abbrev pub IsDecidedAs : ℕ → ℕ → ℕ → ℕ → ℕ → ℕ → List ℕ → Type 0
+IsDecidedAs budget status read_before read_now write_before write_now input =
+    (accepted : IsAccepted input)
+    → IsDecidedBy accepted.program budget status
+    ⊎ (Rose read_before read_now ⊎ Rose write_before write_now)

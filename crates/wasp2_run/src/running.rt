@@ -5,8 +5,8 @@ ghost use Rattle.ground_program.specs.Program.{IsProgram};
 ghost use Rattle.lparse_reader.specs.Refuses.{IsOfSomeText};
 ghost use Rattle.run_words.specs.Words.{AreSettings, IsAlone};
 ghost use Rattle.query_run.specs.Answers.{Ends};
-ghost use Rattle.wasp2_run.specs.Run.{HasAnswered, IsAllowed, IsAnsweredBy, IsRefusalOf, QueryRow};
-ghost use Rattle.wasp2_run.specs.Run.{IsSizeRefusalOf, Ran, why_of};
+ghost use Rattle.wasp2_run.specs.Run.{HasAnswered, IsAllowed, IsAnsweredBy, IsDecidedAs};
+ghost use Rattle.wasp2_run.specs.Run.{IsRefusalOf, IsSizeRefusalOf, QueryRow, Ran, why_of};
 
 use crate::refusal_line::{refuse, tell_no_memory, without_tests};
 use byte_edges::{Sink, Source, WriteFault};
@@ -42,6 +42,9 @@ pub fn run_one<S: Source, K: Sink>(
     ensures known { result.status ≢ 4 }
     ensures accepted { IfSome (S.left source.old) (IsAnsweredBy result.status (S.faults source.old)
         (S.faults source.new) (K.faults sink.old) (K.faults sink.new)) }
+    // A budget of at least 3 to the power of the number of variables leaves no test spent.
+    ensures decided { IfSome (S.left source.old) (IsDecidedAs settings.now.budget result.status
+        (S.faults source.old) (S.faults source.new) (K.faults sink.old) (K.faults sink.new)) }
 {
     match query(alloc, settings, source, sink) {
         Ok(ended) => ended,

@@ -1,14 +1,15 @@
 // The top call.
 ghost use Rattle.std.specs.Prelude.{◌≡◌, ◌⊎◌, [], Some, IfSome, map, string_bytes};
 ghost use Rattle.byte_edges.specs.Faults.{Rose};
-ghost use Rattle.wasp2_run.specs.Run.{AreOther, IsAllowed, IsAnsweredBy, Ran, Row};
+ghost use Rattle.run_words.specs.Words.{Orders};
+ghost use Rattle.wasp2_run.specs.Run.{AreOther, IsAllowed, IsAnsweredBy, IsDecidedAs, Ran, Row};
 
 use crate::refusal_line::{refuse, without_tests};
 use crate::running::run_one;
 use byte_edges::{Sink, Source};
 use query_run::Ended;
 use report::Why;
-use run_words::{Settings, Task, read_words};
+use run_words::{Settings, Task, one_task_is_ordered, read_words};
 use std::alloc::Global;
 
 /// Reads a program from the source, finds what the words ask, and writes the report on it to the
@@ -33,9 +34,15 @@ pub fn run<S: Source, K: Sink>(
     ensures accepted { AreOther (map string_bytes words.now)
         ⊎ IfSome (S.left source.old) (IsAnsweredBy result.status (S.faults source.old)
         (S.faults source.new) (K.faults sink.old) (K.faults sink.new)) }
+    // A budget of at least 3 to the power of the number of variables leaves no test spent.
+    ensures decided { (settings : Settings) → Orders (map string_bytes words.now)
+        (Task.Query settings) → IfSome (S.left source.old) (IsDecidedAs settings.budget
+        result.status (S.faults source.old) (S.faults source.new) (K.faults sink.old)
+        (K.faults sink.new)) }
 {
     match read_words(words) {
         Ok(task) => {
+            one_task_is_ordered();
             let settings = settings_of(task);
             run_one(alloc, &settings, source, sink)
         }

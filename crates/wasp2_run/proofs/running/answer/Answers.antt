@@ -5,7 +5,7 @@ use Rattle.wasp2_run.proofs.running.answer.Goals as goal
 
 pub returns-in-Ok : goal.returns-in-Ok
 returns-in-Ok g c =
-    ends_weaker c.answer_query.ensures (λ status spent text given. report given)
+    ends_weaker c.answer_query.ensures.report (λ status spent text given. report given)
 
 pub returns-in-Err : goal.returns-in-Err
 returns-in-Err g c =

@@ -1,8 +1,8 @@
 use Rattle.std.proofs.Common.{[], subst, sym}
 use Rattle.std.specs.Prelude.{IfSome}
 use Rattle.query_run.specs.declared.answering.Ended.{Ended}
-use Rattle.wasp2_run.specs.Run.{IsAllowed, IsAnsweredBy, QueryRow, Ran}
-use Rattle.wasp2_run.proofs.AcceptedLemmas.{accepted_by}
+use Rattle.wasp2_run.specs.Run.{IsAllowed, IsAnsweredBy, IsDecidedAs, QueryRow, Ran}
+use Rattle.wasp2_run.proofs.AcceptedLemmas.{accepted_by, decided_by}
 use Rattle.wasp2_run.proofs.EndingLemmas.{ran_cut, ran_ok}
 use Rattle.wasp2_run.proofs.running.run_one.Goals as goal
 
@@ -32,6 +32,25 @@ returns-in-Err-clause-accepted g c =
     (g.K.Sink.faults c.query.new.sink)))
     (sym c.without_tests.ensures)
     (accepted_by g.K.Sink.written g.K.Sink.faults c.args.settings.now
+    (g.S.Source.left c.args.source.now) (g.S.Source.faults c.args.source.now)
+    (g.S.Source.faults c.query.new.source) c.args.sink.now c.query.new.sink 6 []
+    (ran_cut _ c.in-Err.ensures.table))
+
+pub returns-in-Ok-clause-decided : goal.returns-in-Ok-clause-decided
+returns-in-Ok-clause-decided g c =
+    decided_by g.K.Sink.written g.K.Sink.faults c.args.settings.now
+    (g.S.Source.left c.args.source.now) (g.S.Source.faults c.args.source.now)
+    (g.S.Source.faults c.query.new.source) c.args.sink.now c.query.new.sink c.in-Ok.ended.status
+    c.in-Ok.ended.spent (ran_ok c.in-Ok.ended c.in-Ok.ensures.table)
+
+pub returns-in-Err-clause-decided : goal.returns-in-Err-clause-decided
+returns-in-Err-clause-decided g c =
+    subst (λ (told : Ended). IfSome (g.S.Source.left c.args.source.now)
+    (IsDecidedAs c.args.settings.now.budget told.status (g.S.Source.faults c.args.source.now)
+    (g.S.Source.faults c.query.new.source) (g.K.Sink.faults c.args.sink.now)
+    (g.K.Sink.faults c.query.new.sink)))
+    (sym c.without_tests.ensures)
+    (decided_by g.K.Sink.written g.K.Sink.faults c.args.settings.now
     (g.S.Source.left c.args.source.now) (g.S.Source.faults c.args.source.now)
     (g.S.Source.faults c.query.new.source) c.args.sink.now c.query.new.sink 6 []
     (ran_cut _ c.in-Err.ensures.table))
