@@ -1,20 +1,13 @@
 -- The record and its worker agree after a round.
-use Rattle.std.proofs.Common.{◌≡◌, ◌≢◌, ◌≤◌, ◌<◌, ◌+◌, ◌-◌, ◌⊎◌, ◌||◌, not, ℕ, zero, suc, Bool}
-use Rattle.std.proofs.Common.{true, false, List, [], ◌∷◌, ◌++◌, length, take, get_or, set, refl}
-use Rattle.std.proofs.Common.{sym, ap, subst, ◌∙◌, ⊎_elim, inl, inr, arith, true≢false}
-use Rattle.std.proofs.Common.{Option, Some, None, append-nil, length-append, cond}
-use Rattle.std.specs.Prelude.{All, Any, Contains, IfSome, IfNone, filter}
-use Rattle.std.specs.List.{list_any}
-use Rattle.std.proofs.lemmas.List.Elements.{All-filter, All-append, All-weaker, All-nil, All-cons}
+use Rattle.std.proofs.Common.{◌≡◌, ◌≢◌, ◌≤◌, ◌+◌, ◌⊎◌, ℕ}
+use Rattle.std.proofs.Common.{true, false, List, [], ◌∷◌, ◌++◌, length, get_or, set, refl}
+use Rattle.std.proofs.Common.{sym, ap, subst, ◌∙◌, inl, inr, arith, true≢false}
+use Rattle.std.proofs.Common.{Option, Some, None, length-append}
+use Rattle.std.specs.Prelude.{Contains, IfSome}
 use Rattle.std.proofs.lemmas.List.Elements.{Contains-append_left}
 use Rattle.ground_program.specs.declared.program.Mode.{Mode}
 use Rattle.clause_store.specs.declared.literal.Lit.{Lit}
-use Rattle.clause_store.specs.Laws.{AreMoreClauses}
-use Rattle.clause_store.specs.Entailment.{AreUnits}
 use Rattle.normal_program.specs.declared.normal.Normal.{Normal}
-use Rattle.normal_program.specs.declared.spent.SpentTest.{SpentTest}
-use Rattle.normal_program.specs.Clauses.{base_clauses}
-use Rattle.normal_program.specs.Spent.{AreApart}
 use Rattle.coherence_test.specs.Selectors.{AreUsed}
 use Rattle.worker_jobs.specs.declared.job.Job.{Job}
 use Rattle.worker_jobs.specs.declared.job.Job.TheVariants.{Idle, Coherence, Single, Reduce, Chunk}
@@ -22,29 +15,17 @@ use Rattle.worker_jobs.specs.declared.gain.Gain.{Gain}
 use Rattle.worker_jobs.specs.declared.gain.RoundEnd.{RoundEnd}
 use Rattle.worker_jobs.specs.declared.gain.RoundEnd.TheVariants.{Done, Settled, Paused, Spent}
 use Rattle.worker_jobs.specs.declared.gain.RoundEnd.TheVariants.{SpentWide, NoMemory}
-use Rattle.worker_jobs.specs.Spent.{IsTrueEnd, IsSpentIn}
-use Rattle.worker_jobs.specs.Laws.{LaterTestsAreApart}
-use Rattle.worker_jobs.proofs.SpentLemmas as spent
 use Rattle.worker_strategies.specs.Disjunction.{disjunction_of, disjunction_for}
-use Rattle.worker_strategies.specs.Testing.{IsFrontOf}
-use Rattle.worker_strategies.specs.Working.{Working, KeptTest, HasBegun, HasRounded, EndsBy}
-use Rattle.worker_strategies.specs.Working.{AreOwnUnits}
-use Rattle.worker_strategies.proofs.TestLemmas.{front_among, used_there}
+use Rattle.worker_strategies.specs.Working.{Working, HasRounded}
+use Rattle.worker_strategies.proofs.TestLemmas.{used_there}
 use Rattle.report.specs.declared.lines.Line.{Line}
-use Rattle.master_record.specs.declared.own.OwnTest.{OwnTest}
 use Rattle.master_record.specs.declared.worker.Worker.{Worker}
-use Rattle.master_record.specs.declared.worker.Mark.TheVariants as Marks
-use Rattle.master_record.specs.Rounds.{newcomer, marked, mark_of, gone_on, with_job}
-use Rattle.master_record.specs.Course.{is_open}
-use Rattle.master_record.specs.Books.{Books, open_own, worker_of, job_of, IsOwed}
-use Rattle.master_record.specs.Jobs.{HasJob, IsNewList, GoesOn, IsJob}
-use Rattle.master_record.specs.Merging.{merged, HasMerged, spent_own, new_own, IsApart}
-use Rattle.master_record.specs.Verdicts.{IsTested}
-use Rattle.master_record.proofs.FoundLemmas.{any_unfiltered}
-use Rattle.query_run.specs.Agreed.{only, reach, reach_of, IsBehind, IsInUse, IsUnspent}
+use Rattle.master_record.specs.Rounds.{newcomer, marked, mark_of, with_job}
+use Rattle.master_record.specs.Books.{Books, open_own}
+use Rattle.master_record.specs.Jobs.{HasJob, IsNewList, IsJob}
+use Rattle.master_record.specs.Merging.{HasMerged, spent_own}
+use Rattle.query_run.specs.Agreed.{only, IsInUse, IsUnspent}
 use Rattle.query_run.specs.Agreed.{IsPausedAt, IsInStep}
-use Rattle.query_run.proofs.JobLemmas.{IsAsked, AreWide}
-use Rattle.query_run.proofs.ReachLemmas.{more_then, reach_began, reach_grows}
 
 -- ---- the job
 

@@ -1,15 +1,14 @@
 -- Which answer a run that stopped gives.
-use Rattle.std.proofs.Common.{◌≡◌, ◌≢◌, ◌≤◌, ◌<◌, ◌+◌, ◌-◌, ◌⊎◌, not, ℕ, zero, suc, Bool, true}
-use Rattle.std.proofs.Common.{false, List, [], ◌∷◌, ◌++◌, length, get_or, refl, sym, ap, subst}
-use Rattle.std.proofs.Common.{◌∙◌, ⊎_elim, inl, inr, arith, true≢false, append_assoc, append-nil}
-use Rattle.std.proofs.Common.{Option, Some, None, cond, nat_eq, eq-eqb, eqb-true}
-use Rattle.std.specs.Prelude.{All, AllPairs, Any, Contains, IfSome, IsSome, filter, map, count_by}
+use Rattle.std.proofs.Common.{◌≡◌, ◌≤◌, ℕ, Bool, true}
+use Rattle.std.proofs.Common.{false, List, [], ◌∷◌, ◌++◌, length, refl, sym, ap, subst}
+use Rattle.std.proofs.Common.{◌∙◌, ⊎_elim, inr, arith, true≢false, append_assoc}
+use Rattle.std.proofs.Common.{Option, Some, None}
+use Rattle.std.specs.Prelude.{All, AllPairs, Contains, IfSome, IsSome, filter, map}
 use Rattle.std.specs.Prelude.{◌↔◌}
 use Rattle.std.proofs.lemmas.Bool.{cases_lt}
 use Rattle.std.proofs.lemmas.List.Elements.{filter-append}
 use Rattle.std.specs.Option.{option_to_list}
-use Rattle.std.specs.List.{AllZip, range_with_len}
-use Rattle.std.specs.List.Sorted.{IsStrictlyIncreasing}
+use Rattle.std.specs.List.{AllZip}
 use Rattle.ground_program.specs.declared.program.Mode.{Mode}
 use Rattle.ground_program.specs.declared.program.Named.{Named}
 use Rattle.ground_program.specs.declared.program.Program.{Program}
@@ -19,22 +18,20 @@ use Rattle.normal_program.specs.declared.spent.SpentTest.{SpentTest}
 use Rattle.normal_program.specs.Normal.{IsNormalFormOf}
 use Rattle.normal_program.specs.Spent.{AreApart}
 use Rattle.report.specs.declared.lines.Line.{Line}
-use Rattle.report.specs.declared.lines.Line.TheVariants.{Answer, SettledIn, SettledOut, Sizes}
-use Rattle.report.specs.declared.lines.Line.TheVariants.{Watch, Unsettled, Unknown, Complete}
-use Rattle.report.specs.declared.lines.Line.TheVariants.{Partial, Incoherent, NoMemory, Refused}
-use Rattle.report.specs.Legal.{IsLegalReport, IsLegalSoFar, IsLegalLine, IsSettled, IsOpen}
-use Rattle.report.specs.Legal.{IsEachOpen, EndsSized}
+use Rattle.report.specs.declared.lines.Line.TheVariants.{Unsettled, Unknown, Complete}
+use Rattle.report.specs.declared.lines.Line.TheVariants.{Partial, Incoherent, NoMemory}
+use Rattle.report.specs.Legal.{IsLegalReport, IsOpen}
 use Rattle.report.specs.Text.{text_of_lines}
 use Rattle.report.proofs.LegalLemmas.{legal_no_memory, legal_partial, inside_unwatched}
 use Rattle.report.proofs.LegalLemmas.{watched_unwatched}
 use Rattle.run_words.specs.declared.task.Settings.{Settings}
 use Rattle.master_record.specs.declared.own.OwnTest.{OwnTest}
 use Rattle.master_record.specs.declared.verdict.Verdict.TheVariants as verdicts
-use Rattle.master_record.specs.Course.{IsOpenIn, is_open}
-use Rattle.master_record.specs.Books.{Books, IsOpenCandidate, open_list}
-use Rattle.master_record.specs.Sound.{IsSound, IsOwn, IsSpentByOne}
-use Rattle.master_record.specs.Told.{AreLegalN, IsToldBy}
-use Rattle.master_record.specs.Verdicts.{IsFinished, IsVerdict, IsSpentOut, AreSpent, AreOwnTests}
+use Rattle.master_record.specs.Course.{is_open}
+use Rattle.master_record.specs.Books.{IsOpenCandidate, open_list}
+use Rattle.master_record.specs.Sound.{IsSound, IsSpentByOne}
+use Rattle.master_record.specs.Told.{AreLegalN}
+use Rattle.master_record.specs.Verdicts.{IsVerdict, AreSpent, AreOwnTests}
 use Rattle.master_record.specs.Verdicts.{IsTested}
 use Rattle.master_record.proofs.FoundLemmas.{is_open_of}
 use Rattle.master_record.proofs.ReportLemmas.{complete_report, incoherent_report, unknown_report}

@@ -1,12 +1,10 @@
 -- A run that begins.
-use Rattle.std.proofs.Common.{◌≡◌, ◌≤◌, ℕ, Bool, true, false, List, [], ◌∷◌, ◌++◌, length, refl, sym}
-use Rattle.std.proofs.Common.{ap, subst, inr, arith, true≢false, Option, take}
-use Rattle.std.specs.Prelude.{All, Result}
+use Rattle.std.proofs.Common.{◌≡◌, ℕ, true, false, List, [], ◌∷◌, length, refl, sym}
+use Rattle.std.proofs.Common.{subst, inr, arith, true≢false, Option}
+use Rattle.std.specs.Prelude.{Result}
 use Rattle.std.proofs.lemmas.List.{take_all}
 use Rattle.std.proofs.lemmas.List.Elements.{All-nil}
 use Rattle.byte_edges.specs.declared.writing.WriteFault.{WriteFault}
-use Rattle.clause_store.specs.declared.literal.Lit.{Lit}
-use Rattle.ground_program.specs.declared.program.Mode.{Mode}
 use Rattle.ground_program.specs.declared.program.Program.{Program}
 use Rattle.normal_program.specs.declared.normal.Normal.{Normal}
 use Rattle.normal_program.specs.Normal.{IsNormalFormOf}
@@ -20,11 +18,11 @@ use Rattle.worker_strategies.specs.Working.{HasBegun, hired}
 use Rattle.worker_strategies.proofs.TestLemmas.{front_itself}
 use Rattle.master_record.specs.declared.own.OwnTest.{OwnTest}
 use Rattle.master_record.specs.Course.{is_open}
-use Rattle.master_record.specs.Books.{Books, opened}
+use Rattle.master_record.specs.Books.{opened}
 use Rattle.master_record.specs.Sound.{IsSound}
 use Rattle.master_record.proofs.LawLemmas.{begins}
 use Rattle.query_run.specs.declared.answering.Ended.{Ended}
-use Rattle.query_run.specs.Agreed.{IsAgreed, IsBehind, IsInStep}
+use Rattle.query_run.specs.Agreed.{IsBehind, IsInStep}
 use Rattle.query_run.specs.Answers.{Answers, Ends}
 use Rattle.query_run.specs.Ending.{HasEnded}
 use Rattle.query_run.specs.Way.{Begins, IsOnWay, Stands, Way}

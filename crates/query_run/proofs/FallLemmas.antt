@@ -1,44 +1,38 @@
 -- What is left to do falls with each round.
-use Rattle.std.proofs.Common.{◌≡◌, ◌≢◌, ◌≤◌, ◌<◌, ◌+◌, ◌-◌, ◌*◌, ◌⊎◌, ◌||◌, ◌&&◌, not, ℕ, zero}
-use Rattle.std.proofs.Common.{suc, Bool, true, false, List, [], ◌∷◌, ◌++◌, length, take, get_or}
-use Rattle.std.proofs.Common.{set, refl, sym, ap, subst, ◌∙◌, ⊎_elim, inl, inr, arith, true≢false}
-use Rattle.std.proofs.Common.{Option, Some, None, append-nil, length-append, cond, nat_eq, eqb-true}
+use Rattle.std.proofs.Common.{◌≡◌, ◌≤◌, ◌<◌, ◌+◌, ◌-◌, ◌||◌, not, ℕ}
+use Rattle.std.proofs.Common.{Bool, true, false, List, [], ◌∷◌, ◌++◌, length}
+use Rattle.std.proofs.Common.{refl, sym, ap, subst, ◌∙◌, inl, inr, arith, true≢false}
+use Rattle.std.proofs.Common.{nat_eq, eqb-true}
 use Rattle.std.proofs.Common.{eq-eqb}
-use Rattle.std.specs.Prelude.{All, Any, Contains, IfSome, IfNone, filter, count_by, IsSome}
-use Rattle.std.specs.List.{list_any, list_all, range_with_len}
-use Rattle.std.proofs.lemmas.Bool.{cases_lt, cases_eq}
+use Rattle.std.specs.Prelude.{All, Any, Contains, count_by}
+use Rattle.std.specs.List.{list_any, range_with_len}
 use Rattle.std.proofs.lemmas.List.Folds.{Any-from_list_any, list_any-from_Any}
 use Rattle.std.proofs.lemmas.List.FromFn.{get_or-range_with_len, length-range_with_len}
 use Rattle.std.proofs.lemmas.List.Sums.{count_by-le-length}
 use Rattle.ground_program.specs.declared.program.Named.{Named}
 use Rattle.ground_program.specs.Bounds.{IsCandidate}
 use Rattle.normal_program.specs.declared.normal.Normal.{Normal}
-use Rattle.normal_program.specs.declared.spent.SpentTest.{SpentTest}
 use Rattle.report.specs.declared.lines.Line.{Line}
 use Rattle.worker_jobs.specs.declared.job.Job.{Job}
 use Rattle.worker_jobs.specs.declared.job.Job.TheVariants.{Idle, Coherence, Single, Reduce, Chunk}
 use Rattle.worker_jobs.specs.declared.gain.Gain.{Gain}
-use Rattle.worker_jobs.specs.declared.gain.RoundEnd.{RoundEnd}
-use Rattle.worker_jobs.specs.declared.gain.RoundEnd.TheVariants.{Done, Settled, Paused, Spent}
-use Rattle.worker_jobs.specs.declared.gain.RoundEnd.TheVariants.{SpentWide, NoMemory}
 use Rattle.worker_jobs.specs.Gain.{IsTrueGain, HasGained, SaysIncoherent, Answers}
 use Rattle.master_record.specs.declared.own.OwnTest.{OwnTest}
-use Rattle.master_record.specs.declared.worker.Worker.{Worker}
-use Rattle.master_record.specs.Course.{IsOpenIn, is_open}
+use Rattle.master_record.specs.Course.{is_open}
 use Rattle.master_record.specs.Books.{Books, IsOpenCandidate, open_own}
-use Rattle.master_record.specs.Merging.{HasMerged, spent_own, spent_coherence, says_incoherent}
+use Rattle.master_record.specs.Merging.{HasMerged, spent_own, says_incoherent}
 use Rattle.master_record.specs.Sound.{IsSound}
 use Rattle.master_record.specs.Told.{IsToldBy}
 use Rattle.master_record.specs.Verdicts.{IsTested}
 use Rattle.master_record.proofs.CourseLemmas.{and_left, and_right, and_both, not_true, true_not}
 use Rattle.master_record.proofs.CourseLemmas.{not_so}
-use Rattle.master_record.proofs.LeftLemmas.{any_filtered, tested_or_not}
+use Rattle.master_record.proofs.LeftLemmas.{any_filtered}
 use Rattle.master_record.proofs.FoundLemmas.{is_open_of}
 use Rattle.report.proofs.LegalLemmas.{Any-before}
 use Rattle.query_run.specs.Agreed.{only}
-use Rattle.query_run.specs.Progress.{all_of, undone, is_there, is_left, unsettled, unspent}
+use Rattle.query_run.specs.Progress.{all_of, undone, is_left, unsettled}
 use Rattle.query_run.proofs.CountLemmas.{count_fewer, count_strict}
-use Rattle.query_run.proofs.MergeLemmas.{was_open, gained_closed, now_answered, answers_are}
+use Rattle.query_run.proofs.MergeLemmas.{was_open, gained_closed, now_answered}
 use Rattle.query_run.proofs.JobLemmas.{IsOfUse}
 use Rattle.query_run.proofs.AgreeLemmas.{own_is}
 

@@ -1,9 +1,8 @@
 -- A run that stopped and wrote its last lines has answered.
-use Rattle.std.proofs.Common.{◌≡◌, ◌≤◌, ◌⊎◌, ℕ, Bool, List, [], ◌∷◌, ◌++◌, length, refl, sym, ap}
-use Rattle.std.proofs.Common.{subst, ◌∙◌, ⊎_elim, inl, inr, Option, Some, None, Ok, Err}
-use Rattle.std.specs.Prelude.{Result, IsErr, IfOk, map}
+use Rattle.std.proofs.Common.{◌≡◌, ℕ, List, [], ◌∷◌, ◌++◌, refl, sym, ap}
+use Rattle.std.proofs.Common.{subst, ◌∙◌, inl, inr, Option, Ok, Err}
+use Rattle.std.specs.Prelude.{Result, IsErr, map}
 use Rattle.std.proofs.lemmas.Grind.{flat_map-append}
-use Rattle.byte_edges.specs.Edges.{Writes}
 use Rattle.byte_edges.specs.declared.writing.WriteFault.{WriteFault}
 use Rattle.byte_edges.proofs.CallerLemmas.{writes_then, writes_longer, writes_fault, writes_same}
 use Rattle.ground_program.specs.declared.program.Mode.{Mode}
@@ -18,12 +17,12 @@ use Rattle.report.specs.Text.{text_of_line, text_of_lines}
 use Rattle.run_words.specs.declared.task.Settings.{Settings}
 use Rattle.master_record.specs.declared.verdict.Verdict.{Verdict}
 use Rattle.master_record.specs.declared.verdict.Verdict.TheVariants as verdicts
-use Rattle.master_record.specs.Books.{Books, open_list}
+use Rattle.master_record.specs.Books.{open_list}
 use Rattle.master_record.specs.Told.{AreLegalN}
 use Rattle.master_record.specs.Verdicts.{IsVerdict}
 use Rattle.query_run.specs.declared.answering.Ended.{Ended}
 use Rattle.query_run.specs.Answers.{Answers, Ends}
-use Rattle.query_run.specs.Ending.{HasEnded, HasEndedPartial, HasFinished, IsSpentEnd}
+use Rattle.query_run.specs.Ending.{HasEnded, HasEndedPartial, HasFinished}
 use Rattle.query_run.specs.Way.{Begins, HasReached, HasStopped, IsOnWay, Stands, Way, first_sizes, left_of}
 use Rattle.query_run.proofs.AnswerLemmas.{answers_complete, answers_incoherent, answers_no_memory}
 use Rattle.query_run.proofs.AnswerLemmas.{answers_open, answers_unknown}

@@ -1,10 +1,9 @@
 -- What a round does to a run.
-use Rattle.std.proofs.Common.{◌≡◌, ◌≢◌, ◌≤◌, ◌<◌, ◌+◌, ◌-◌, ◌*◌, ◌⊎◌, ◌||◌, ◌&&◌, not, ℕ, zero}
-use Rattle.std.proofs.Common.{suc, Bool, true, false, List, [], ◌∷◌, ◌++◌, length, take, get_or}
+use Rattle.std.proofs.Common.{◌≡◌, ◌≢◌, ◌≤◌, ◌<◌, ◌+◌, ◌-◌, ◌&&◌, not, ℕ}
+use Rattle.std.proofs.Common.{Bool, true, false, List, [], ◌∷◌, ◌++◌, length, take, get_or}
 use Rattle.std.proofs.Common.{refl, sym, ap, subst, ◌∙◌, ⊎_elim, inl, inr, arith, true≢false}
-use Rattle.std.proofs.Common.{Option, Some, None, length-append, cond, nat_eq, eqb-true}
-use Rattle.std.specs.Prelude.{All, Any, Contains, IfSome, IfNone, IsSome, count_by}
-use Rattle.std.specs.List.{list_all}
+use Rattle.std.proofs.Common.{Option, Some, None, length-append, cond, eqb-true}
+use Rattle.std.specs.Prelude.{All, Contains, IfSome, IfNone, IsSome, count_by}
 use Rattle.std.proofs.lemmas.List.Sums.{AllPass-from_list_all}
 use Rattle.std.proofs.lemmas.List.Elements.{All-append, All-head}
 use Rattle.ground_program.specs.declared.program.Mode.{Mode}
@@ -24,32 +23,29 @@ use Rattle.worker_jobs.specs.declared.gain.RoundEnd.TheVariants.{Done, Settled, 
 use Rattle.worker_jobs.specs.declared.gain.RoundEnd.TheVariants.{SpentWide, NoMemory}
 use Rattle.worker_jobs.specs.Gain.{IsTrueGain, Answers}
 use Rattle.worker_jobs.specs.Job.{IsJobOver}
-use Rattle.worker_jobs.specs.Spent.{IsTrueEnd, IsSpentIn}
-use Rattle.worker_jobs.specs.Laws.{LaterTestsAreApart}
+use Rattle.worker_jobs.specs.Spent.{IsTrueEnd}
 use Rattle.clause_store.proofs.lemmas.Units.UnitLemmas.{units_among_fewer}
-use Rattle.worker_strategies.specs.Testing.{IsFrontOf}
 use Rattle.worker_strategies.specs.Working.{Working, KeptTest, HasRounded, EndsBy, IsPaused}
 use Rattle.worker_strategies.specs.Working.{BeginsWith, HasBegun, HasSelectorFor, AreOwnUnits}
-use Rattle.worker_strategies.specs.Working.{IsSpentRound, IsSpentWideRound, IsDone}
 use Rattle.worker_strategies.proofs.TestLemmas.{front_among}
 use Rattle.master_record.specs.declared.own.OwnTest.{OwnTest}
 use Rattle.master_record.specs.declared.verdict.Verdict.TheVariants.{Running}
 use Rattle.master_record.specs.declared.worker.Worker.{Worker}
 use Rattle.master_record.specs.Rounds.{marked, mark_of}
 use Rattle.master_record.specs.Course.{is_open}
-use Rattle.master_record.specs.Books.{Books, IsOpenCandidate, IsOwed, IsWorker}
-use Rattle.master_record.specs.Jobs.{CanGoOn, GoesOn, IsUntested, IsJob, HasJob, HasGiven}
+use Rattle.master_record.specs.Books.{Books, IsOwed}
+use Rattle.master_record.specs.Jobs.{CanGoOn, GoesOn, IsJob, HasJob, HasGiven}
 use Rattle.master_record.specs.Merging.{HasMerged, IsApart}
 use Rattle.master_record.specs.Sound.{IsSound}
 use Rattle.master_record.specs.Told.{IsToldBy}
-use Rattle.master_record.specs.Verdicts.{IsVerdict, IsSpentOut}
-use Rattle.master_record.proofs.CourseLemmas.{and_left, and_right, not_true, not_so, true_not}
+use Rattle.master_record.specs.Verdicts.{IsVerdict}
+use Rattle.master_record.proofs.CourseLemmas.{and_left, and_right}
 use Rattle.master_record.proofs.LawLemmas.{jobs_told}
 use Rattle.query_run.specs.Agreed.{only, reach, IsInStep, IsPausedAt, IsAgreed, HasWorked, IsBehind}
 use Rattle.query_run.specs.Progress.{all_of, undone, is_left, is_there, unsettled, unspent, can_go_on, goes_on}
 use Rattle.query_run.specs.Progress.{kept_units, uncounted, weigh, to_do}
 use Rattle.query_run.proofs.WeightLemmas.{first_falls, second_falls, third_falls}
-use Rattle.query_run.proofs.JobLemmas.{IsAsked, AreWide, open_by, workers_are, alive, asked_job}
+use Rattle.query_run.proofs.JobLemmas.{IsAsked, open_by, workers_are, alive, asked_job}
 use Rattle.query_run.proofs.JobLemmas.{IsOfUse, of_use}
 use Rattle.query_run.proofs.JobLemmas.{asked_over, asked_selector, job_is, mid_workers, had_is}
 use Rattle.query_run.proofs.ReachLemmas.{more_then, reach_began}

@@ -1,10 +1,8 @@
 -- A round, put together from its steps.
-use Rattle.std.proofs.Common.{◌≡◌, ◌≢◌, ◌≤◌, ◌<◌, ◌+◌, ◌⊎◌, ℕ, Bool, true, false, List, [], ◌∷◌}
-use Rattle.std.proofs.Common.{◌++◌, length, get_or, refl, sym, ap, subst, ◌∙◌, ⊎_elim, inl, inr}
-use Rattle.std.proofs.Common.{arith}
+use Rattle.std.proofs.Common.{◌≡◌, ◌≤◌, ◌<◌, ◌+◌, ℕ, Bool, true, List, [], ◌∷◌}
+use Rattle.std.proofs.Common.{◌++◌, get_or, refl, sym, ap, subst, ◌∙◌, ⊎_elim, inl, inr}
 use Rattle.std.specs.Prelude.{All, IfOk, Result}
 use Rattle.std.proofs.Common.{Ok, Err}
-use Rattle.std.specs.List.{filter_map}
 use Rattle.std.proofs.lemmas.List.Elements.{filter_map-append, filter_passes, All-append, All-nil}
 use Rattle.std.proofs.lemmas.List.Elements.{All-cons, All-head, All-tail}
 use Rattle.ground_program.specs.declared.pair.Pair.{Pair}
@@ -13,7 +11,7 @@ use Rattle.ground_program.specs.declared.program.Mode.TheVariants.{Cautious, Bra
 use Rattle.ground_program.specs.declared.program.Named.{Named}
 use Rattle.ground_program.specs.Bounds.{IsCandidate}
 use Rattle.report.specs.declared.lines.Line.{Line}
-use Rattle.report.specs.declared.lines.Line.TheVariants.{Answer, SettledIn, SettledOut}
+use Rattle.report.specs.declared.lines.Line.TheVariants.{Answer}
 use Rattle.report.specs.Legal.{Extent, all_sizes, sizes_in}
 use Rattle.report.specs.Text.{NamesCandidate}
 use Rattle.worker_jobs.specs.declared.job.Job.{Job}

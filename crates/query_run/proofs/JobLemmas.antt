@@ -1,9 +1,9 @@
 -- What job the only worker gets while the run goes on.
-use Rattle.std.proofs.Common.{◌≡◌, ◌≢◌, ◌≤◌, ◌<◌, ◌+◌, ◌-◌, ◌⊎◌, not, ℕ, zero, suc, Bool, true}
-use Rattle.std.proofs.Common.{false, List, [], ◌∷◌, ◌++◌, length, take, drop, get_or, refl, sym}
+use Rattle.std.proofs.Common.{◌≡◌, ◌≤◌, ◌<◌, ◌+◌, ◌-◌, not, ℕ, zero, suc, Bool, true}
+use Rattle.std.proofs.Common.{false, List, [], ◌∷◌, length, take, drop, get_or, refl, sym}
 use Rattle.std.proofs.Common.{ap, subst, ◌∙◌, ⊎_elim, inl, inr, arith, true≢false}
 use Rattle.std.proofs.Common.{Option, Some, None}
-use Rattle.std.specs.Prelude.{All, Any, Contains, slice_get, IfSome, filter, IsSome}
+use Rattle.std.specs.Prelude.{All, slice_get, IfSome, IsSome}
 use Rattle.std.specs.List.{range_with_len}
 use Rattle.std.proofs.lemmas.Bool.{cases_lt}
 use Rattle.std.proofs.lemmas.List.Elements.{All-filter, filter_passes, All-head, All-nil, All-cons}
@@ -13,28 +13,25 @@ use Rattle.ground_program.specs.declared.pair.Pair.{Pair}
 use Rattle.ground_program.specs.declared.program.Named.{Named}
 use Rattle.ground_program.specs.Bounds.{IsCandidate}
 use Rattle.normal_program.specs.declared.spent.SpentTest.{SpentTest}
-use Rattle.coherence_test.specs.Testing.{selectors}
 use Rattle.worker_jobs.specs.declared.job.Job.{Job}
 use Rattle.worker_jobs.specs.declared.job.Job.TheVariants.{Idle, Coherence, Single, Reduce, Chunk}
 use Rattle.worker_jobs.specs.declared.job.Strategy.{Strategy}
 use Rattle.worker_jobs.specs.declared.job.Strategy.TheVariants as Kinds
-use Rattle.worker_jobs.specs.Job.{AreCandidates, IsJobOver}
+use Rattle.worker_jobs.specs.Job.{IsJobOver}
 use Rattle.worker_strategies.specs.Working.{Working, HasSelectorFor}
-use Rattle.worker_strategies.specs.Disjunction.{disjunction_of}
-use Rattle.master_record.specs.declared.own.OwnTest.{OwnTest}
 use Rattle.master_record.specs.declared.worker.Worker.{Worker}
 use Rattle.master_record.specs.declared.verdict.Verdict.TheVariants.{Running}
 use Rattle.master_record.specs.Rounds.{newcomer}
 use Rattle.master_record.specs.Course.{IsOpenIn, is_open}
-use Rattle.master_record.specs.Books.{Books, IsOpenCandidate, open_list, worker_of, IsStrategy}
-use Rattle.master_record.specs.Jobs.{CanGoOn, GoesOn, IsTaken, IsUntested, IsFree, IsSingle}
-use Rattle.master_record.specs.Jobs.{MayBeWide, MayReduce, IsReduction, IsChunk, IsByStrategy}
+use Rattle.master_record.specs.Books.{Books, IsOpenCandidate, open_list, IsStrategy}
+use Rattle.master_record.specs.Jobs.{CanGoOn, IsTaken, IsUntested, IsSingle}
+use Rattle.master_record.specs.Jobs.{IsReduction, IsChunk, IsByStrategy}
 use Rattle.master_record.specs.Jobs.{LooksForOne, IsNewJob, IsJob, HasJob, HasGiven}
-use Rattle.master_record.specs.Verdicts.{IsVerdict, IsTested, IsSpentOut, AreDead}
+use Rattle.master_record.specs.Verdicts.{IsVerdict}
 use Rattle.master_record.specs.Sound.{IsSound}
 use Rattle.master_record.proofs.CourseLemmas.{and_left, and_right, not_true, not_so}
 use Rattle.master_record.proofs.LeftLemmas.{tested_or_not}
-use Rattle.query_run.specs.Agreed.{only, IsUnspent, IsInUse, IsPausedAt, IsInStep, IsAgreed}
+use Rattle.query_run.specs.Agreed.{only, IsUnspent, IsInUse, IsPausedAt, IsInStep}
 
 -- a list of one item
 pub single_list : {X : Type 0} (xs : List X) (d : X) → length xs ≡ 1 → xs ≡ get_or xs 0 d ∷ []

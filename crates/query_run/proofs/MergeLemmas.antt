@@ -1,8 +1,8 @@
 -- What a merge makes of the candidates.
-use Rattle.std.proofs.Common.{◌≡◌, ◌≢◌, ◌≤◌, ◌<◌, ◌+◌, ◌-◌, ◌&&◌, not, ℕ, zero, suc, Bool, true}
-use Rattle.std.proofs.Common.{false, List, [], ◌∷◌, ◌++◌, length, get_or, refl, sym, ap, subst}
-use Rattle.std.proofs.Common.{◌∙◌, ⊎_elim, inl, inr, arith, true≢false, append_assoc}
-use Rattle.std.specs.Prelude.{All, Any, Contains}
+use Rattle.std.proofs.Common.{◌≡◌, ◌≤◌, ◌+◌, ◌-◌, ℕ, zero, suc, Bool, true}
+use Rattle.std.proofs.Common.{false, List, [], ◌∷◌, ◌++◌, length, refl, sym, ap, subst}
+use Rattle.std.proofs.Common.{⊎_elim, inl, inr, arith}
+use Rattle.std.specs.Prelude.{Any, Contains}
 use Rattle.ground_program.specs.declared.program.Mode.{Mode}
 use Rattle.ground_program.specs.declared.program.Mode.TheVariants.{Cautious, Brave}
 use Rattle.ground_program.specs.declared.program.Named.{Named}
@@ -10,22 +10,20 @@ use Rattle.ground_program.specs.declared.pair.Pair.{Pair}
 use Rattle.ground_program.specs.Bounds.{IsCandidate, Shows}
 use Rattle.normal_program.specs.declared.normal.Normal.{Normal}
 use Rattle.report.specs.declared.lines.Line.{Line}
-use Rattle.report.specs.declared.lines.Line.TheVariants.{Answer, SettledIn, SettledOut}
-use Rattle.report.specs.Legal.{IsShownBy, IsSettled, Settles, GivesShown}
-use Rattle.report.proofs.LegalLemmas.{Any-before}
+use Rattle.report.specs.declared.lines.Line.TheVariants.{Answer}
+use Rattle.report.specs.Legal.{IsShownBy, IsSettled, Settles}
 use Rattle.worker_jobs.specs.declared.gain.Gain.{Gain}
 use Rattle.worker_jobs.specs.Gain.{IsTrueGain, HasGained}
 use Rattle.master_record.specs.Course.{IsOpenIn, is_open, is_open_at, with_lines}
 use Rattle.master_record.specs.Books.{Books}
-use Rattle.master_record.specs.Settling.{AreAnswers, IsNews, ShowsOpenIn, IsGainedLine, cand_of}
+use Rattle.master_record.specs.Settling.{AreAnswers, IsGainedLine, cand_of}
 use Rattle.master_record.specs.Settling.{IsShownLine, IsProvedLine, shown_line, proved_line}
 use Rattle.master_record.specs.Merging.{HasMerged}
 use Rattle.master_record.specs.Sound.{IsSound}
 use Rattle.master_record.specs.Told.{IsToldBy}
-use Rattle.master_record.proofs.CourseLemmas.{was_open_all, not_so}
+use Rattle.master_record.proofs.CourseLemmas.{was_open_all}
 use Rattle.master_record.proofs.LawLemmas.{merges_told}
 use Rattle.master_record.proofs.ToldLemmas.{any_later}
-use Rattle.master_record.proofs.FoundLemmas.{is_open_of}
 
 -- the line of a candidate that is shown or proved settles it
 settles_shown : (mode : Mode) (cand by : ℕ) → Settles cand (shown_line mode cand by)

@@ -1,25 +1,21 @@
 -- The answer where each test that is left was spent.
-use Rattle.std.proofs.Common.{◌≡◌, ◌≢◌, ◌≤◌, ◌<◌, ◌+◌, ◌-◌, ◌⊎◌, not, ℕ, zero, suc, Bool, true}
+use Rattle.std.proofs.Common.{◌≡◌, ◌≤◌, ◌<◌, ◌⊎◌, ℕ, zero, suc, Bool, true}
 use Rattle.std.proofs.Common.{false, List, [], ◌∷◌, ◌++◌, length, get_or, refl, sym, ap, subst}
-use Rattle.std.proofs.Common.{◌∙◌, ⊎_elim, inl, inr, arith, true≢false, append_assoc, append-nil}
-use Rattle.std.proofs.Common.{Option, Some, None, cond, nat_eq, eq-eqb, eqb-true}
-use Rattle.std.specs.Prelude.{All, AllPairs, Any, Contains, IfNone, IfSome, IsSome, filter, map}
-use Rattle.std.specs.Prelude.{count_by, ◌↔◌}
-use Rattle.std.specs.Option.{option_to_list}
+use Rattle.std.proofs.Common.{◌∙◌, ⊎_elim, inl, inr, arith, append_assoc}
+use Rattle.std.proofs.Common.{Option, Some, None}
+use Rattle.std.specs.Prelude.{All, AllPairs, Contains, IfNone, filter, map}
 use Rattle.std.specs.List.{AllZip, range_with_len}
 use Rattle.std.specs.List.Sorted.{IsStrictlyIncreasing}
-use Rattle.std.proofs.lemmas.Bool.{cases_lt, cases_eq}
-use Rattle.std.proofs.lemmas.List.Elements.{filter-append, All-head, All-tail, All-cons}
+use Rattle.std.proofs.lemmas.Bool.{cases_lt}
+use Rattle.std.proofs.lemmas.List.Elements.{All-head, All-tail, All-cons}
 use Rattle.std.proofs.lemmas.List.{get_or_default}
 use Rattle.std.proofs.lemmas.List.Kept.{AllPairs-cons, AllPairs-from_increasing}
 use Rattle.std.proofs.lemmas.List.Kept.{IsStrictlyIncreasing-filter}
 use Rattle.ground_program.specs.declared.program.Mode.{Mode}
-use Rattle.ground_program.specs.declared.program.Named.{Named}
 use Rattle.ground_program.specs.declared.program.Program.{Program}
 use Rattle.ground_program.specs.Bounds.{IsCandidate}
 use Rattle.normal_program.specs.declared.normal.Normal.{Normal}
 use Rattle.normal_program.specs.declared.spent.SpentTest.{SpentTest}
-use Rattle.normal_program.specs.Normal.{IsNormalFormOf}
 use Rattle.normal_program.specs.Spent.{AreApart}
 use Rattle.normal_program.specs.Clauses.{base_clauses}
 use Rattle.clause_store.specs.Entailment.{AreUnits}
@@ -27,18 +23,14 @@ use Rattle.report.specs.declared.lines.Line.{Line}
 use Rattle.report.specs.declared.lines.Line.TheVariants.{Answer, SettledIn, SettledOut, Sizes}
 use Rattle.report.specs.declared.lines.Line.TheVariants.{Watch, Unsettled, Unknown, Complete}
 use Rattle.report.specs.declared.lines.Line.TheVariants.{Partial, Incoherent, NoMemory, Refused}
-use Rattle.report.specs.Legal.{IsLegalReport, IsLegalSoFar, IsLegalLine, IsSettled, IsOpen}
-use Rattle.report.specs.Legal.{IsEachOpen, EndsSized}
-use Rattle.report.proofs.LegalLemmas.{legal_partial, inside_unwatched, watched_unwatched}
+use Rattle.report.specs.Legal.{IsLegalSoFar, IsLegalLine}
 use Rattle.run_words.specs.declared.task.Settings.{Settings}
 use Rattle.master_record.specs.declared.own.OwnTest.{OwnTest}
-use Rattle.master_record.specs.Course.{IsOpenIn, is_open}
+use Rattle.master_record.specs.Course.{is_open}
 use Rattle.master_record.specs.Books.{Books, IsOpenCandidate, open_list}
-use Rattle.master_record.specs.Sound.{IsSound, IsOwn, IsSpentByOne, AreEachApart}
-use Rattle.master_record.specs.Told.{IsToldBy}
-use Rattle.master_record.specs.Verdicts.{IsFinished, IsSpentOut, IsTested, IsTestOf, AreSpent}
+use Rattle.master_record.specs.Sound.{IsSound, IsOwn}
+use Rattle.master_record.specs.Verdicts.{IsTested, IsTestOf}
 use Rattle.master_record.specs.Verdicts.{AreOwnTests}
-use Rattle.master_record.proofs.CourseLemmas.{not_so}
 use Rattle.master_record.proofs.FoundLemmas.{is_open_of}
 use Rattle.master_record.proofs.LeftLemmas.{any_filtered}
 use Rattle.query_run.specs.Answers.{IsNamedBy, names_test}

@@ -1,18 +1,17 @@
 -- The clauses beside which units are worth counting only become more.
-use Rattle.std.proofs.Common.{◌≡◌, ◌≢◌, ◌≤◌, ◌<◌, ◌+◌, ℕ, Bool, true, false, List, [], ◌∷◌, ◌++◌}
-use Rattle.std.proofs.Common.{length, take, get_or, refl, sym, ap, subst, ◌∙◌, ⊎_elim, inl, inr}
-use Rattle.std.proofs.Common.{arith, Option, Some, None}
-use Rattle.std.specs.Prelude.{All, Contains, IfNone, IfSome}
+use Rattle.std.proofs.Common.{◌≡◌, ℕ, List}
+use Rattle.std.proofs.Common.{take, get_or, refl, sym, ap, subst, ◌∙◌, inl, inr}
+use Rattle.std.proofs.Common.{Option, Some, None}
+use Rattle.std.specs.Prelude.{Contains}
 use Rattle.std.proofs.lemmas.List.{take-append-le}
-use Rattle.std.proofs.lemmas.List.Elements.{All-weaker, All-take, All-contains_itself, All-append}
+use Rattle.std.proofs.lemmas.List.Elements.{All-take, All-contains_itself}
 use Rattle.clause_store.specs.declared.literal.Lit.{Lit}
 use Rattle.clause_store.specs.Laws.{AreMoreClauses}
 use Rattle.worker_jobs.specs.declared.job.Job.{Job}
 use Rattle.worker_jobs.specs.declared.gain.Gain.{Gain}
-use Rattle.worker_strategies.specs.Testing.{IsFrontOf}
 use Rattle.worker_strategies.specs.Working.{Working, KeptTest, HasBegun, HasRounded, BeginsWith}
 use Rattle.worker_strategies.proofs.TestLemmas.{front_among, take_front}
-use Rattle.query_run.specs.Agreed.{reach, reach_of, IsBehind}
+use Rattle.query_run.specs.Agreed.{reach, reach_of}
 
 -- clauses among others that are among more
 pub more_then : (one two three : List (List Lit)) → AreMoreClauses one two

@@ -1,9 +1,9 @@
 -- The lines of a run so far, and how it stops.
-use Rattle.std.proofs.Common.{◌≡◌, ◌≢◌, ◌≤◌, ◌<◌, ◌+◌, ◌⊎◌, ◌||◌, ℕ, Bool, true, false, List, []}
-use Rattle.std.proofs.Common.{◌∷◌, ◌++◌, length, refl, sym, ap, subst, ◌∙◌, ⊎_elim, inl, inr, arith}
-use Rattle.std.proofs.Common.{Option, Some, None, Ok, Err, append-nil, append_assoc}
-use Rattle.std.specs.Prelude.{Result, IsErr, IfOk}
-use Rattle.std.specs.List.{list_any, flat_map}
+use Rattle.std.proofs.Common.{◌≡◌, ◌≢◌, ◌⊎◌, ◌||◌, ℕ, Bool, false, List, []}
+use Rattle.std.proofs.Common.{◌++◌, refl, sym, ap, subst, ◌∙◌, ⊎_elim, inl, inr}
+use Rattle.std.proofs.Common.{Option, Ok, Err}
+use Rattle.std.specs.Prelude.{Result, IsErr}
+use Rattle.std.specs.List.{list_any}
 use Rattle.std.proofs.lemmas.Grind.{flat_map-append}
 use Rattle.byte_edges.specs.Edges.{Writes}
 use Rattle.byte_edges.specs.declared.writing.WriteFault.{WriteFault}
@@ -26,7 +26,7 @@ use Rattle.master_record.specs.Books.{Books}
 use Rattle.master_record.specs.Told.{AreLegalN}
 use Rattle.master_record.specs.Verdicts.{IsVerdict}
 use Rattle.query_run.specs.Agreed.{HasWorked}
-use Rattle.query_run.specs.Way.{Way, HasGone, HasReached, HasStopped, IsOnWay, IsSameRun, Stands}
+use Rattle.query_run.specs.Way.{Way, HasGone, HasReached, IsOnWay, IsSameRun, Stands}
 use Rattle.query_run.specs.Way.{settles, with_sizes}
 use Rattle.query_run.proofs.TellLemmas.{stands_then}
 

@@ -1,15 +1,13 @@
 -- The record and its worker are in step after a round.
-use Rattle.std.proofs.Common.{◌≡◌, ◌≢◌, ◌≤◌, ◌<◌, ◌+◌, ◌-◌, ◌⊎◌, ◌||◌, not, ℕ, zero, suc, Bool}
-use Rattle.std.proofs.Common.{true, false, List, [], ◌∷◌, ◌++◌, length, take, get_or, set, refl}
-use Rattle.std.proofs.Common.{sym, ap, subst, ◌∙◌, ⊎_elim, inl, inr, arith, true≢false}
+use Rattle.std.proofs.Common.{◌≡◌, ◌≤◌, ◌+◌, ◌⊎◌, ℕ, Bool}
+use Rattle.std.proofs.Common.{true, false, List, [], ◌∷◌, ◌++◌, length, get_or, refl}
+use Rattle.std.proofs.Common.{sym, ap, subst, ◌∙◌, inl, inr, arith}
 use Rattle.std.proofs.Common.{Option, Some, None, append-nil, length-append, cond, nat_eq}
-use Rattle.std.specs.Prelude.{All, Any, Contains, IfSome, IfNone, filter}
+use Rattle.std.specs.Prelude.{All, Any, IfSome, IfNone}
 use Rattle.std.specs.List.{list_any}
 use Rattle.std.proofs.lemmas.List.Elements.{All-filter, All-append, All-nil, All-cons}
-use Rattle.ground_program.specs.declared.program.Mode.{Mode}
 use Rattle.clause_store.specs.declared.literal.Lit.{Lit}
 use Rattle.clause_store.specs.Laws.{AreMoreClauses}
-use Rattle.normal_program.specs.declared.normal.Normal.{Normal}
 use Rattle.normal_program.specs.declared.spent.SpentTest.{SpentTest}
 use Rattle.worker_jobs.specs.declared.job.Job.{Job}
 use Rattle.worker_jobs.specs.declared.job.Job.TheVariants.{Idle, Coherence, Single, Reduce, Chunk}
@@ -18,7 +16,7 @@ use Rattle.worker_jobs.specs.declared.gain.RoundEnd.{RoundEnd}
 use Rattle.worker_jobs.specs.declared.gain.RoundEnd.TheVariants.{Done, Settled, Paused, Spent}
 use Rattle.worker_jobs.specs.declared.gain.RoundEnd.TheVariants.{SpentWide, NoMemory}
 use Rattle.worker_strategies.specs.Working.{Working, KeptTest, HasBegun, HasRounded, EndsBy}
-use Rattle.worker_strategies.specs.Working.{IsPaused, IsSpentRound, IsOwnWork, AreOwnUnits}
+use Rattle.worker_strategies.specs.Working.{IsPaused, AreOwnUnits}
 use Rattle.report.specs.declared.lines.Line.{Line}
 use Rattle.master_record.specs.declared.own.OwnTest.{OwnTest}
 use Rattle.master_record.specs.declared.worker.Worker.{Worker}

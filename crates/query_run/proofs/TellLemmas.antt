@@ -1,10 +1,10 @@
 -- The lines of rounds, one round after the other.
-use Rattle.std.proofs.Common.{◌≡◌, ◌≢◌, ◌≤◌, ◌<◌, ◌+◌, ◌-◌, ◌⊎◌, ◌||◌, not, ℕ, zero, suc, Bool}
+use Rattle.std.proofs.Common.{◌≡◌, ◌≢◌, ◌≤◌, ◌+◌, ◌||◌, ℕ, Bool}
 use Rattle.std.proofs.Common.{true, false, List, [], ◌∷◌, ◌++◌, length, refl, sym, ap, subst}
-use Rattle.std.proofs.Common.{◌∙◌, ⊎_elim, inl, inr, arith, true≢false, append_assoc, append-nil}
-use Rattle.std.proofs.Common.{Option, Some, None, cond}
+use Rattle.std.proofs.Common.{◌∙◌, arith, true≢false, append_assoc, append-nil}
+use Rattle.std.proofs.Common.{Some, cond}
 use Rattle.std.specs.Prelude.{count_by, map}
-use Rattle.std.specs.List.{flat_map, list_any, filter_map}
+use Rattle.std.specs.List.{flat_map, list_any}
 use Rattle.ground_program.specs.declared.program.Named.{Named}
 use Rattle.report.specs.Text.{text_of_line, text_of_lines}
 use Rattle.std.proofs.lemmas.List.Elements.{filter_map-append}
@@ -15,7 +15,6 @@ use Rattle.report.specs.declared.lines.Line.TheVariants.{Watch, Unsettled, Unkno
 use Rattle.report.specs.declared.lines.Line.TheVariants.{Partial, Incoherent, NoMemory, Refused}
 use Rattle.report.specs.Legal.{EndsSized, Extent, all_sizes, sizes_in, is_in, is_out, last_of}
 use Rattle.normal_program.specs.declared.normal.Normal.{Normal}
-use Rattle.master_record.specs.Books.{Books}
 use Rattle.master_record.specs.Told.{IsToldBy, IsResized, sizes_of}
 use Rattle.master_record.proofs.LawLemmas.{sizes_told}
 use Rattle.master_record.proofs.ResizedLemmas.{resized_by}

@@ -1,19 +1,12 @@
 -- Each round leaves less to do.
-use Rattle.std.proofs.Common.{◌≡◌, ◌≢◌, ◌≤◌, ◌<◌, ◌+◌, ◌-◌, ◌*◌, ◌⊎◌, ◌||◌, ◌&&◌, not, ℕ, zero}
-use Rattle.std.proofs.Common.{suc, Bool, true, false, List, [], ◌∷◌, ◌++◌, length, take, get_or}
-use Rattle.std.proofs.Common.{set, refl, sym, ap, subst, ◌∙◌, ⊎_elim, inl, inr, arith, true≢false}
-use Rattle.std.proofs.Common.{Option, Some, None, append-nil, length-append, cond, nat_eq, eqb-true}
-use Rattle.std.proofs.Common.{eq-eqb}
-use Rattle.std.specs.Prelude.{All, Any, Contains, IfSome, IfNone, filter, count_by, IsSome}
+use Rattle.std.proofs.Common.{◌≡◌, ◌≤◌, ◌<◌, ◌+◌, ◌&&◌, not, ℕ, zero}
+use Rattle.std.proofs.Common.{suc, Bool, true, false, List, [], ◌∷◌, ◌++◌, length}
+use Rattle.std.proofs.Common.{refl, sym, ap, subst, ◌∙◌, arith, true≢false}
+use Rattle.std.proofs.Common.{Option, cond, nat_eq}
+use Rattle.std.specs.Prelude.{All, Any, count_by}
 use Rattle.std.specs.List.{list_any, list_all}
-use Rattle.std.proofs.lemmas.List.Elements.{All-head}
-use Rattle.clause_store.specs.declared.literal.Lit.{Lit}
-use Rattle.ground_program.specs.declared.program.Named.{Named}
-use Rattle.ground_program.specs.Bounds.{IsCandidate}
-use Rattle.normal_program.specs.declared.normal.Normal.{Normal}
 use Rattle.normal_program.specs.declared.spent.SpentTest.{SpentTest}
 use Rattle.report.specs.declared.lines.Line.{Line}
-use Rattle.report.proofs.LegalLemmas.{Any-last}
 use Rattle.worker_jobs.specs.declared.job.Job.{Job}
 use Rattle.worker_jobs.specs.declared.job.Job.TheVariants.{Idle, Coherence, Single, Reduce, Chunk}
 use Rattle.worker_jobs.specs.declared.gain.Gain.{Gain}
@@ -21,16 +14,13 @@ use Rattle.worker_jobs.specs.declared.gain.RoundEnd.{RoundEnd}
 use Rattle.worker_jobs.specs.declared.gain.RoundEnd.TheVariants.{Done, Settled, Paused, Spent}
 use Rattle.worker_jobs.specs.declared.gain.RoundEnd.TheVariants.{SpentWide, NoMemory}
 use Rattle.worker_jobs.specs.Gain.{IsTrueGain}
-use Rattle.worker_jobs.specs.Job.{IsJobOver}
-use Rattle.worker_strategies.specs.Working.{Working, KeptTest, HasRounded, EndsBy, IsPaused}
-use Rattle.worker_strategies.specs.Working.{BeginsWith}
 use Rattle.master_record.specs.declared.own.OwnTest.{OwnTest}
 use Rattle.master_record.specs.declared.worker.Worker.{Worker}
 use Rattle.master_record.specs.Rounds.{marked, mark_of}
 use Rattle.master_record.specs.Course.{is_open}
 use Rattle.master_record.specs.Books.{Books, IsOpenCandidate, open_own}
-use Rattle.master_record.specs.Jobs.{CanGoOn, GoesOn, IsUntested, IsJob, HasJob}
-use Rattle.master_record.specs.Merging.{HasMerged, spent_own, spent_coherence, new_own}
+use Rattle.master_record.specs.Jobs.{IsUntested}
+use Rattle.master_record.specs.Merging.{HasMerged, spent_own, spent_coherence}
 use Rattle.master_record.specs.Sound.{IsSound}
 use Rattle.master_record.specs.Told.{IsToldBy}
 use Rattle.master_record.specs.Verdicts.{IsTested}
@@ -38,14 +28,14 @@ use Rattle.master_record.proofs.CourseLemmas.{and_left, and_right, and_both, not
 use Rattle.master_record.proofs.CourseLemmas.{not_so}
 use Rattle.master_record.proofs.LeftLemmas.{any_filtered}
 use Rattle.master_record.proofs.FoundLemmas.{is_open_of}
-use Rattle.query_run.specs.Agreed.{only, IsInStep, IsPausedAt}
+use Rattle.query_run.specs.Agreed.{only}
 use Rattle.query_run.specs.Progress.{all_of, undone, is_there, is_left, unsettled, unspent}
-use Rattle.query_run.specs.Progress.{can_go_on, goes_on, kept_units, uncounted, weigh, to_do}
+use Rattle.query_run.specs.Progress.{can_go_on}
 use Rattle.query_run.proofs.JobLemmas.{IsOfUse}
 use Rattle.query_run.proofs.AgreeLemmas.{only_is, own_is}
 use Rattle.query_run.proofs.FallLemmas.{undone_less, undone_falls, undone_most, is_tested}
 use Rattle.query_run.proofs.FallLemmas.{tested_is}
-use Rattle.query_run.proofs.FallLemmas.{left_fewer, left_falls, left_most, first_stays}
+use Rattle.query_run.proofs.FallLemmas.{left_fewer, left_falls, left_most}
 use Rattle.query_run.proofs.FallLemmas.{first_by_open, first_by_answer}
 
 -- ---- the second number

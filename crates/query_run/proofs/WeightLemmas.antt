@@ -1,5 +1,5 @@
 -- When what is left to do falls.
-use Rattle.std.proofs.Common.{◌≡◌, ◌≤◌, ◌<◌, ◌+◌, ◌*◌, ℕ, arith, sym, ◌∙◌}
+use Rattle.std.proofs.Common.{◌≡◌, ◌≤◌, ◌<◌, ◌+◌, ◌*◌, ℕ, arith}
 use Rattle.std.proofs.lemmas.Nat.{mul-le}
 use Rattle.query_run.specs.Progress.{weigh}
 

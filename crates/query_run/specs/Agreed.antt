@@ -1,5 +1,5 @@
 -- What the record of a run and its only worker have to do with each other.
-use Rattle.std.specs.Prelude.{◌≡◌, ◌≤◌, ◌<◌, ◌⊎◌, ℕ, Bool, true, false, List, Option, None, Some}
+use Rattle.std.specs.Prelude.{◌≡◌, ◌≤◌, ◌<◌, ◌⊎◌, ℕ, true, false, List, Option, None, Some}
 use Rattle.std.specs.Prelude.{length, take, All, Contains, IfNone, IfSome, ⊤}
 use Rattle.clause_store.specs.declared.literal.Lit.{Lit}
 use Rattle.clause_store.specs.Laws.{AreMoreClauses}

@@ -2,12 +2,9 @@
 use Rattle.std.specs.Prelude.{◌+◌, ◌*◌, ◌-◌, ◌==◌, ◌&&◌, ℕ, Bool, true, false, not, List, length}
 use Rattle.std.specs.Prelude.{Option, None, Some, count_by, if◌then◌else◌}
 use Rattle.std.specs.List.{list_all, list_any, range_with_len}
-use Rattle.normal_program.specs.declared.spent.SpentTest.{SpentTest}
 use Rattle.worker_jobs.specs.declared.job.Job.{Job}
 use Rattle.worker_jobs.specs.declared.job.Job.TheVariants.{Idle, Coherence, Single, Reduce, Chunk}
 use Rattle.worker_strategies.specs.Working.{Working, KeptTest}
-use Rattle.master_record.specs.declared.own.OwnTest.{OwnTest}
-use Rattle.master_record.specs.declared.worker.Worker.{Worker}
 use Rattle.master_record.specs.Course.{is_open}
 use Rattle.master_record.specs.Books.{Books}
 use Rattle.query_run.specs.Agreed.{only}

@@ -1,5 +1,5 @@
 -- How far a run with one worker has come, and what its steps do.
-use Rattle.std.specs.Prelude.{◌≡◌, ◌≤◌, ◌<◌, ◌⊎◌, ◌+◌, ◌==◌, ◌++◌, ◌∷◌, ℕ, Bool, true, false, List, []}
+use Rattle.std.specs.Prelude.{◌≡◌, ◌≤◌, ◌<◌, ◌⊎◌, ◌++◌, ◌∷◌, ℕ, Bool, true, false, List, []}
 use Rattle.std.specs.Prelude.{Option, Result, All, IfOk, count_by, not, if◌then◌else◌}
 use Rattle.std.specs.List.{list_any}
 use Rattle.byte_edges.specs.Edges.{Writes}

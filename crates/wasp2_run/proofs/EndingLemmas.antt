@@ -1,7 +1,7 @@
 -- How a call that writes one of several texts ends, from what its writing did.
-use Rattle.std.proofs.Common.{◌≡◌, ◌≢◌, ◌⊎◌, ℕ, List, [], Option, Ok, Err, refl, sym, ap, subst}
+use Rattle.std.proofs.Common.{◌≡◌, ℕ, List, [], Option, Ok, Err, refl, sym, subst}
 use Rattle.std.proofs.Common.{inl, inr, take}
-use Rattle.std.specs.Prelude.{Result, IfOk, IsErr}
+use Rattle.std.specs.Prelude.{Result, IfOk}
 use Rattle.byte_edges.specs.Edges.{Writes}
 use Rattle.normal_program.specs.declared.spent.SpentTest.{SpentTest}
 use Rattle.query_run.specs.declared.answering.Ended.{Ended}

@@ -1,6 +1,5 @@
-use Rattle.std.proofs.Common.{◌++◌, ◌∷◌, List, [], map}
-use Rattle.report.specs.declared.lines.Line.{Line}
-use Rattle.report.specs.declared.lines.Line.TheVariants.{Complete, Partial, Unknown, Unsettled}
+use Rattle.std.proofs.Common.{◌∷◌, []}
+use Rattle.report.specs.declared.lines.Line.TheVariants.{Complete}
 use Rattle.query_run.specs.Way.{sizes_before}
 use Rattle.query_run.proofs.EndLemmas.{ended_fault, ended_then}
 use Rattle.query_run.proofs.ending.write_complete.Goals as goal

@@ -1,5 +1,3 @@
-use Rattle.std.proofs.Common.{◌≡◌, ℕ, List, [], ◌∷◌, ◌++◌, ap, map, refl}
-use Rattle.std.specs.List.{flat_map}
 use Rattle.byte_edges.proofs.CallerLemmas.{writes_same}
 use Rattle.query_run.proofs.TellLemmas.{open_text}
 use Rattle.query_run.proofs.telling.write_open.Goals as goal

@@ -1,10 +1,8 @@
-use Rattle.std.proofs.Common.{◌≡◌, ◌++◌, List, ap, sym}
+use Rattle.std.proofs.Common.{◌≡◌, sym}
 use Rattle.std.proofs.lemmas.Grind.{flat_map-append}
 use Rattle.byte_edges.proofs.CallerLemmas.{writes_fault, writes_longer, writes_ok, writes_same}
 use Rattle.byte_edges.proofs.CallerLemmas.{writes_then}
-use Rattle.report.specs.declared.lines.Line.{Line}
-use Rattle.report.specs.Text.{text_of_line, text_of_lines}
-use Rattle.query_run.specs.Way.{sizes_before}
+use Rattle.report.specs.Text.{text_of_line}
 use Rattle.query_run.proofs.telling.write_told.Goals as goal
 
 pub returns-in_err-write_lines-clause-written : goal.returns-in_err-write_lines-clause-written

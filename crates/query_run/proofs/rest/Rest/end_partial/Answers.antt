@@ -1,7 +1,6 @@
-use Rattle.std.proofs.Common.{◌≡◌, ◌≤◌, ◌∷◌, ℕ, List, [], ap, inl, inr, map, subst, sym, arith, rules}
+use Rattle.std.proofs.Common.{ℕ, List, inl, inr, map, subst, rules}
 use Rattle.report.specs.declared.lines.Line.TheVariants.{Unsettled}
 use Rattle.query_run.specs.Ending.{IsSpentEnd}
-use Rattle.query_run.specs.Way.{Left}
 use Rattle.query_run.proofs.rest.Rest.end_partial.Goals as goal
 
 pub returns-in-Ok : goal.returns-in-Ok

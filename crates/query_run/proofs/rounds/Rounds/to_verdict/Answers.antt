@@ -1,4 +1,4 @@
-use Rattle.std.proofs.Common.{◌≡◌, ◌<◌, List, ap, rules, subst, sym}
+use Rattle.std.proofs.Common.{◌≡◌, ◌<◌, List, rules, subst, sym}
 use Rattle.report.specs.declared.lines.Line.{Line}
 use Rattle.master_record.specs.Verdicts.{IsVerdict}
 use Rattle.query_run.specs.Progress.{to_do}
