@@ -78,11 +78,7 @@ fn reads_alone<R: Clock>(rt: &R, client: &mut Client, reads: u32) -> Option<Call
 {
     let start = Instant::now(rt).ok()?;
     read_often(client, reads);
-    let took = start.elapsed(rt).ok()?;
-    Some(Calls {
-        count: u64::from(reads),
-        took,
-    })
+    calls_since(rt, start, u64::from(reads))
 }
 
 /// Reads the board so many times.
@@ -165,9 +161,8 @@ fn reports_alone<R: Clock>(
     for _ in 0..rounds {
         report_each(board, seat, set);
     }
-    let took = start.elapsed(rt).ok()?;
     let count = u64::from(rounds) * u64::from(board.candidates());
-    Some(Calls { count, took })
+    calls_since(rt, start, count)
 }
 
 /// So many reports of a set, with no second thread.
@@ -186,11 +181,7 @@ fn set_reports_alone<R: Clock>(
     for _ in 0..rounds {
         board.report_set(seat, set);
     }
-    let took = start.elapsed(rt).ok()?;
-    Some(Calls {
-        count: u64::from(rounds),
-        took,
-    })
+    calls_since(rt, start, u64::from(rounds))
 }
 
 /// So many reads by a seat that keeps nothing from read to read, with no second thread.
@@ -211,11 +202,7 @@ fn whole_reads_alone<R: Clock>(
     for _ in 0..reads {
         board.read_into(seat, &mut pair);
     }
-    let took = start.elapsed(rt).ok()?;
-    Some(Calls {
-        count: u64::from(reads),
-        took,
-    })
+    calls_since(rt, start, u64::from(reads))
 }
 
 /// Reports of each candidate that it isn't a consequence: an answer set has no atom.
@@ -228,4 +215,10 @@ fn report_each(board: &Board, seat: &mut BoardSeat, set: &Set)
     for at in 0..board.candidates() {
         board.report_out(seat, at + 1);
     }
+}
+
+/// So many calls since a moment.
+fn calls_since<R: Clock>(rt: &R, start: Instant, count: u64) -> Option<Calls> {
+    let took = start.elapsed(rt).ok()?;
+    Some(Calls { count, took })
 }
