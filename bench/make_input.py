@@ -3,7 +3,8 @@
 200,000 atoms), `make_input.py mixed BYTES` (rules of all kinds), `make_input.py weights N` (a configuration: N weight
 rules over 400 atoms that may be chosen), `make_input.py ladder N` (for each number up to N, that as many of N atoms are
 chosen), `make_input.py formula N TERMS SEED` (a quantified formula: for some values of N variables all values of N
-others make one of the terms true) or `make_input.py diagnosis BITS SEED` (least sets of faulty gates in an adder)."""
+others make one of the terms true), `make_input.py diagnosis BITS SEED` (least sets of faulty gates in an adder) or
+`make_input.py choices N` (N named atoms that may be chosen)."""
 import itertools
 import random
 import sys
@@ -173,8 +174,17 @@ def diagnosis(bits, seed, out):
     atoms.end([f"ok({at})" for at in places], ["least"], ["wrong"])
 
 
+def choices(count, out):
+    atoms = range(1, count + 1)
+    line([3, count, *atoms, 0, 0], out)
+    out.write("0\n")
+    for atom in atoms:
+        out.write(f"{atom} atom({atom})\n")
+    out.write("0\nB+\n0\nB-\n0\n1\n")
+
+
 MAKERS = {"facts": facts, "basic": basic, "mixed": mixed, "weights": weights, "ladder": ladder, "formula": formula,
-          "diagnosis": diagnosis}
+          "diagnosis": diagnosis, "choices": choices}
 
 if __name__ == "__main__":
     MAKERS[sys.argv[1]](*map(int, sys.argv[2:]), sys.stdout)

@@ -1,17 +1,17 @@
 -- From what a slow check says of a clause of one atom to consequences, and what shows that a
 -- candidate is none.
-use Rattle.std.proofs.Common.{◌≡◌, ◌≤◌, ◌<◌, ◌+◌, ◌∙◌, ℕ, Bool, true, false, List, [], ◌∷◌, ◌++◌}
+use Rattle.std.proofs.Common.{◌≡◌, ◌≤◌, ◌<◌, ◌∙◌, ℕ, Bool, false, List, [], ◌∷◌, ◌++◌}
 use Rattle.std.proofs.Common.{length, length-append, get_or, map, Any, sym, ap, subst, arith}
 use Rattle.std.proofs.lemmas.Bool.{true≢false}
 use Rattle.std.proofs.lemmas.List.{get_or_append_left}
 use Rattle.ground_program.specs.declared.program.Mode.TheVariants.{Cautious}
 use Rattle.ground_program.specs.Bounds.{atom_of}
-use Rattle.ground_program.specs.Meaning.{has, IsIn}
+use Rattle.ground_program.specs.Meaning.{has}
 use Rattle.clause_store.specs.declared.literal.Lit.{Lit}
 use Rattle.clause_store.specs.Clause.{IsTrueIn}
 use Rattle.normal_program.specs.declared.normal.Normal.{Normal}
 use Rattle.normal_program.specs.Body.{body_holds}
-use Rattle.normal_program.specs.Normal.{IsAnswerSetN, extension}
+use Rattle.normal_program.specs.Normal.{IsAnswerSetN}
 use Rattle.normal_program.specs.Clauses.{IsEntailed, positive}
 use Rattle.normal_program.proofs.lemmas.Base.TruthLemmas.{makes_true-positive}
 use Rattle.anytime_core.specs.Truth.{IsConsequenceN}

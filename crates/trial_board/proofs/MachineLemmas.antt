@@ -1,13 +1,13 @@
 -- The report that the first of three candidates is no consequence, as the first event of one actor.
-use Rattle.std.proofs.Common.{◌≡◌, ◌≤◌, ◌<◌, ◌+◌, ℕ, length, refl, sym, subst, arith, rules}
+use Rattle.std.proofs.Common.{◌≡◌, ◌+◌, ℕ, length, refl, sym, subst, arith}
 use Rattle.ground_program.specs.declared.program.Mode.TheVariants.{Cautious}
 use Rattle.ground_program.specs.Bounds.{IsCandidate}
 use Rattle.normal_program.specs.declared.normal.Normal.{Normal}
 use Rattle.anytime_core.specs.declared.event.Event.{Event}
 use Rattle.anytime_core.specs.declared.event.Event.TheVariants.{ReportOut}
-use Rattle.anytime_core.specs.Bits.{HasBit, words_for, out_place}
-use Rattle.anytime_core.specs.Legal.{HasActor, IsLegal}
-use Rattle.anytime_core.specs.Machine.{Machine, opening, after, actor_at, candidates_of}
+use Rattle.anytime_core.specs.Bits.{HasBit, words_for}
+use Rattle.anytime_core.specs.Legal.{IsLegal}
+use Rattle.anytime_core.specs.Machine.{Machine, opening, actor_at}
 use Rattle.anytime_core.specs.Truth.{IsConsequenceN, IsTrueOut}
 use Rattle.bounds_board.proofs.ReportLemmas.{power_bit}
 
@@ -46,11 +46,3 @@ module _ (normal : Normal) (three : length normal.names ≡ 3)
 
   pub few_steps : (actor_at core 0).steps ≡ 0
   few_steps = subst (λ (machine : Machine). (actor_at machine 0).steps ≡ 0) (sym is) refl
-
-  pub still_there : HasActor (after core first_out) 0
-  still_there = subst (λ (machine : Machine). HasActor (after machine first_out) 0) (sym is)
-      (omega arith)
-
-  pub still_three : candidates_of (after core first_out) ≡ 3
-  still_three = subst (λ (machine : Machine). candidates_of (after machine first_out) ≡ 3) (sym is)
-      three

@@ -101,9 +101,9 @@ static ROWS: [Row; 9] = [
         lower: &[false, false, false],
     },
     Row {
-        shows: "a model with a smaller one of its reduct is not taken",
+        shows: "a model with a smaller one of its reduct is not taken, whatever was offered before",
         text: ONE_OF_TWO,
-        sets: &[0b1010, 0b1110],
+        sets: &[0b1010, 0b0010, 0b1110],
         limit: 1,
         answer: Answer::Smaller,
         upper: &[true, false, true],

@@ -1,5 +1,5 @@
 use Rattle.std.proofs.Common.{arith}
-use Rattle.trial_board.proofs.MachineLemmas.{few_steps, legal, still_there, still_three}
+use Rattle.trial_board.proofs.MachineLemmas.{few_steps, legal}
 use Rattle.trial_board.proofs.trials.machine.is_seen.Goals as goal
 
 pub step-requires-clause-legal : goal.step-requires-clause-legal
