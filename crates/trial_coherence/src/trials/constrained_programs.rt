@@ -1,36 +1,38 @@
 // Random programs in which 2 to 11 may be chosen, and 1, which must be false, follows from random
-// bodies of three or four literals. Their testers count clauses of all lengths.
+// bodies of three or four literals, beside a few random rules of all kinds but the disjunctive one.
+// Their testers count clauses of all lengths.
 ghost use Rattle.std.specs.Prelude.{IfOk, IfSome};
 ghost use Rattle.ground_program.specs.Program.{IsProgram};
 
-use ground_program::{
-    AtomLit, Atoms, Body, Heads, Kind, Name, Named, Names, Program, Rule, Rules, Weighted, is_valid,
-};
+use ground_program::{AtomLit, Atoms, Body, Heads, Kind, Program, Rule, Rules, Weighted, is_valid};
 use item_list::NoMemory;
 use std::alloc::Global;
-use trial_inputs::Draws;
+use trial_inputs::{Draws, Recipe, random_program};
 
 /// The greatest atom.
 const ATOMS: u32 = 11;
 
 /// How many bodies there are. With more of them few programs have answer sets.
-const BODIES: u32 = 54;
+const BODIES: u32 = 44;
+
+/// The rules beside these. All atoms have names, so that selectors are left.
+static OTHERS: Recipe = Recipe {
+    atoms: ATOMS,
+    rules: 4,
+    kinds: &[Kind::Basic, Kind::Constraint, Kind::Choice, Kind::Weight],
+    names: ATOMS,
+};
 
 /// The next of these programs. There is always one.
 pub fn constrained_program(alloc: Global, draws: &mut Draws) -> Result<Option<Program>, NoMemory>
     ensures { IfOk result (λ it. IfSome it IsProgram) }
 {
-    let rules = rules_of(alloc, draws)?;
-    let names = all_names(alloc)?;
-    let must_not = Atoms::from_slice(alloc, &[1])?;
-    let program = Program {
-        atoms: ATOMS,
-        rules,
-        names,
-        must: Atoms::open(),
-        must_not,
-        models: 1,
+    let Some(mut program) = random_program(alloc, &OTHERS, draws)? else {
+        return Ok(None);
     };
+    put_rules(alloc, draws, &mut program.rules)?;
+    program.atoms = ATOMS;
+    program.must_not = Atoms::from_slice(alloc, &[1])?;
     if is_valid(&program) {
         Ok(Some(program))
     } else {
@@ -38,15 +40,15 @@ pub fn constrained_program(alloc: Global, draws: &mut Draws) -> Result<Option<Pr
     }
 }
 
-fn rules_of(alloc: Global, draws: &mut Draws) -> Result<Rules, NoMemory> {
-    let mut rules = Rules::open();
+/// Puts the choice and the random bodies last.
+fn put_rules(alloc: Global, draws: &mut Draws, rules: &mut Rules) -> Result<(), NoMemory> {
     let choice = choice(alloc)?;
     rules.push(alloc, choice)?;
     for _ in 0..BODIES {
         let constraint = constraint(alloc, draws)?;
         rules.push(alloc, constraint)?;
     }
-    Ok(rules)
+    Ok(())
 }
 
 /// All atoms but 1 may be chosen.
@@ -81,14 +83,4 @@ fn constraint(alloc: Global, draws: &mut Draws) -> Result<Rule, NoMemory> {
         heads: Heads::one(1),
         body,
     })
-}
-
-/// The names of all atoms: all the same.
-fn all_names(alloc: Global) -> Result<Names, NoMemory> {
-    let mut names = Names::open();
-    for atom in 1..ATOMS + 1 {
-        let name = Name::from_slice(alloc, b"a")?;
-        names.push(alloc, Named { atom, name })?;
-    }
-    Ok(names)
 }

@@ -1,5 +1,5 @@
 // A tester of a program, and the answer sets of the program.
-ghost use Rattle.std.specs.Prelude.{◌≡◌, ◌<◌, ◌↔◌, length, All, IfOk, IfSome, IsTrue};
+ghost use Rattle.std.specs.Prelude.{◌≡◌, ◌≤◌, ◌<◌, ◌↔◌, length, All, IfOk, IfSome, IsTrue};
 ghost use Rattle.clause_store.specs.Clause.{HasNoVariableTwice, IsOver};
 ghost use Rattle.normal_program.specs.Clauses.{base_clauses};
 ghost use Rattle.normal_program.specs.Limit.{IsNormal};
@@ -29,6 +29,8 @@ pub struct Scene<'a> {
     pub normal: &'a Normal,
     pub tester: Tester<'a>,
     pub extensions: Sets,
+    /// How many questions were put. Each begins with the next budget and slice.
+    pub put: u32,
     pub stops: Stops,
     /// The clauses that tests counted since it was last seen which are handed on.
     pub counted: Units,
@@ -57,6 +59,7 @@ impl<'a> Scene<'a> {
             normal,
             tester,
             extensions,
+            put: 0,
             stops: Stops::none(),
             counted: Units::open(),
             kinds: Kinds::none(),
@@ -94,6 +97,7 @@ impl<'a> Scene<'a> {
             normal: self.normal,
             tester,
             extensions,
+            put: 0,
             stops: Stops::none(),
             counted: Units::open(),
             kinds: Kinds::none(),
@@ -143,7 +147,7 @@ impl<'a> Scene<'a> {
         }
         fill(budget, turn);
         let before = budget.used() as usize;
-        let tested = self.tester.test(alloc, asked, budget, 1 + turn % 2);
+        let tested = self.tester.test(alloc, asked, budget, slice_at(turn));
         put_after(alloc, budget.units(), before, &mut self.counted)?;
         match tested {
             Tested::NoMemory => Ok(None),
@@ -152,20 +156,23 @@ impl<'a> Scene<'a> {
     }
 
     /// Asks until the answer is Found or Core, with budgets of 1 to 5 and greater ones, and slices
-    /// of 1 and 2. None is want of memory, a question that may not be asked, one that takes too
-    /// long, or a test that is wrongly spent inside a set.
+    /// of 1 and 2, of which each question begins with the next. None is want of memory, a question
+    /// that may not be asked, one that takes too long, or a test that is wrongly spent inside a set.
     pub fn settle(&mut self, alloc: Global, asked: &Asked) -> Result<Option<Tested>, NoMemory>
         requires { IsReady self.old.program.now self.old.normal.now self.old.tester }
         ensures { IsReady self.new.program.now self.new.normal.now self.new.tester }
     {
-        let mut budget = Budget::new(1);
-        for turn in 0..1000u32 {
+        let start = self.put % 10;
+        self.put = self.put.wrapping_add(1);
+        let mut budget = Budget::new(budget_at(start));
+        for turn in start..start + 1000 {
             let Some(tested) = self.ask(alloc, asked, &mut budget, turn)? else {
                 return Ok(None);
             };
             if !is_stop(&tested) {
                 return Ok(Some(tested));
             }
+            self.stops.count(&tested, budget.limit(), slice_at(turn));
             if !self.may_go_on(alloc, asked, &tested, &mut budget)? {
                 return Ok(None);
             }
@@ -173,24 +180,21 @@ impl<'a> Scene<'a> {
         Ok(None)
     }
 
-    /// Counts a stop. Whether it is right. Where a test was spent inside a set, the next budget is
-    /// twice as great.
+    /// Whether a stop is right. Where a test was spent inside a set, the next budget is twice as
+    /// great.
     fn may_go_on(
-        &mut self,
+        &self,
         alloc: Global,
         asked: &Asked,
         tested: &Tested,
         budget: &mut Budget,
     ) -> Result<bool, NoMemory>
-        requires { IsReady self.old.program.now self.old.normal.now self.old.tester }
-        ensures { IsReady self.new.program.now self.new.normal.now self.new.tester }
+        requires { IsReady self.now.program.now self.now.normal.now self.now.tester }
     {
         let Tested::SpentInside { set, units } = tested else {
-            self.stops.count_outside();
             return Ok(true);
         };
         let limit = budget.limit();
-        self.stops.count_inside(limit);
         *budget = Budget::new(limit.saturating_mul(2));
         Ok(units.len() == limit as usize && self.is_inside(alloc, asked, set, units)?)
     }
@@ -315,8 +319,22 @@ fn fill(budget: &mut Budget, turn: u32)
     ensures { length budget.new.units < budget.new.limit }
 {
     if budget.used() == budget.limit() {
-        *budget = Budget::new(1 + turn % 5);
+        *budget = Budget::new(budget_at(turn));
     }
+}
+
+/// The limit of a budget that is opened at a turn: 1 to 5 one after the other.
+fn budget_at(turn: u32) -> u32
+    ensures { 1 ≤ result }
+{
+    1 + turn % 5
+}
+
+/// How many clauses may be counted at a turn: 1 and 2 by turns.
+fn slice_at(turn: u32) -> u32
+    ensures { 1 ≤ result }
+{
+    1 + turn % 2
 }
 
 /// Whether the variables of literals are 1 to `greatest`.

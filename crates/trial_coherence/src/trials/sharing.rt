@@ -8,7 +8,7 @@ ghost use Rattle.trial_coherence.specs.Ready.{IsReady};
 use crate::trials::constrained_programs::constrained_program;
 use crate::trials::questions::ask_all;
 use crate::trials::scene::Scene;
-use crate::trials::tallies::Kinds;
+use crate::trials::tallies::{Kinds, Stops};
 use crate::trials::worked_programs::{NO_FOUR, NO_ONE, NO_THREE, NO_TWO, NOT_ALONE};
 use clause_store::Short;
 use coherence_test::Asked;
@@ -146,65 +146,80 @@ fn is_shown(alloc: Global, row: &Row) -> Result<bool, NoMemory> {
     }
 }
 
-/// Asks all questions of a tester. The kinds of the clauses that it counted. None is a wrong
-/// answer, or a clause that is handed on and mustn't be, or isn't and must be.
-fn kinds_asked(
+/// What was counted about programs, and how tests stopped.
+#[derive(Debug, Drop, Clone, Copy)]
+struct Counts {
+    kinds: Kinds,
+    stops: Stops,
+}
+
+/// Asks all questions of a tester. What it counted. None is a wrong answer, or a clause that is
+/// handed on and mustn't be, or isn't and must be.
+fn counts_asked(
     alloc: Global,
     scene: &mut Scene,
     draws: &mut Draws,
-) -> Result<Option<Kinds>, NoMemory>
+) -> Result<Option<Counts>, NoMemory>
     requires { IsReady scene.old.program.now scene.old.normal.now scene.old.tester }
 {
     let shown = ask_all(alloc, scene, draws)?;
-    Ok((shown.right && shown.handed_on).then_some(scene.kinds))
+    let counts = Counts {
+        kinds: scene.kinds,
+        stops: scene.stops,
+    };
+    Ok((shown.right && shown.handed_on).then_some(counts))
 }
 
-fn kinds_for(
+fn counts_for(
     alloc: Global,
     program: &Program,
     normal: &Normal,
     draws: &mut Draws,
-) -> Result<Option<Kinds>, NoMemory>
+) -> Result<Option<Counts>, NoMemory>
     requires normal { IsNormal normal.now }
     requires form { IsNormalFormOf normal.now program.now }
 {
     match Scene::open(alloc, program, normal)? {
         None => Ok(None),
-        Some(mut scene) => kinds_asked(alloc, &mut scene, draws),
+        Some(mut scene) => counts_asked(alloc, &mut scene, draws),
     }
 }
 
-fn kinds_about(
+fn counts_about(
     alloc: Global,
     program: &Program,
     draws: &mut Draws,
-) -> Result<Option<Kinds>, NoMemory>
+) -> Result<Option<Counts>, NoMemory>
     requires { IsProgram program.now }
 {
     match normalise(alloc, program) {
         Err(_) => Ok(None),
-        Ok(normal) => kinds_for(alloc, program, &normal, draws),
+        Ok(normal) => counts_for(alloc, program, &normal, draws),
     }
 }
 
-fn kinds_about_one(alloc: Global, draws: &mut Draws) -> Result<Option<Kinds>, NoMemory> {
+fn counts_about_one(alloc: Global, draws: &mut Draws) -> Result<Option<Counts>, NoMemory> {
     match constrained_program(alloc, draws)? {
         None => Ok(None),
-        Some(program) => kinds_about(alloc, &program, draws),
+        Some(program) => counts_about(alloc, &program, draws),
     }
 }
 
 /// The same about so many random programs.
-fn kinds_about_all(alloc: Global, programs: u32) -> Result<Option<Kinds>, NoMemory> {
+fn counts_about_all(alloc: Global, programs: u32) -> Result<Option<Counts>, NoMemory> {
     let mut draws = Draws::of(5);
-    let mut kinds = Kinds::none();
+    let mut all = Counts {
+        kinds: Kinds::none(),
+        stops: Stops::none(),
+    };
     for _ in 0..programs {
-        let Some(one) = kinds_about_one(alloc, &mut draws)? else {
+        let Some(one) = counts_about_one(alloc, &mut draws)? else {
             return Ok(None);
         };
-        kinds.add(one);
+        all.kinds.add(one.kinds);
+        all.stops.add(one.stops);
     }
-    Ok(Some(kinds))
+    Ok(Some(all))
 }
 
 #[test]
@@ -215,17 +230,18 @@ fn short_clauses_without_selectors_are_handed_on(rt: HostRuntime) -> Result<(), 
     Ok(())
 }
 
-/// Whether all was right, and there were clauses of each kind.
-fn has_each(kinds: &Option<Kinds>) -> bool {
-    match kinds {
+/// Whether all was right, and there were clauses of each kind, and stops with several budgets and
+/// with both slices.
+fn have_each(counts: &Option<Counts>) -> bool {
+    match counts {
         None => false,
-        Some(kinds) => kinds.has_each(),
+        Some(counts) => counts.kinds.has_each() && counts.stops.are_of_each_kind(),
     }
 }
 
 #[test]
 fn what_budgets_counted_is_handed_on_where_it_may_be(rt: HostRuntime) -> Result<(), Fail> {
-    let kinds = kinds_about_all(rt.alloc(), 12)?;
-    assert!(rt; has_each(&kinds), "{kinds:?}");
+    let counts = counts_about_all(rt.alloc(), 40)?;
+    assert!(rt; have_each(&counts), "{counts:?}");
     Ok(())
 }

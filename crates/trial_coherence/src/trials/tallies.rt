@@ -1,10 +1,14 @@
 // What is counted while tests run, so that none of them shows nothing.
+use coherence_test::Tested;
 
 /// How often a test stopped before it was done.
-#[derive(Drop, Clone, Copy)]
+#[derive(Debug, Drop, Clone, Copy)]
 pub struct Stops {
     /// Spent or Paused.
     pub outside: u32,
+    /// Which budgets were spent and which slices were used up so, each number by its bit.
+    pub budgets: u32,
+    pub slices: u32,
     /// SpentInside, and how often of that with a budget of 1.
     pub inside: u32,
     pub inside_at_one: u32,
@@ -14,16 +18,30 @@ impl Stops {
     pub fn none() -> Stops {
         Stops {
             outside: 0,
+            budgets: 0,
+            slices: 0,
             inside: 0,
             inside_at_one: 0,
         }
     }
 
-    pub fn count_outside(&mut self) {
-        self.outside = self.outside.saturating_add(1);
+    /// Counts a stop with a budget and a slice.
+    pub fn count(&mut self, tested: &Tested, limit: u32, slice: u32) {
+        match tested {
+            Tested::Spent => {
+                self.outside = self.outside.saturating_add(1);
+                self.budgets |= 1 << (limit % 32);
+            }
+            Tested::Paused => {
+                self.outside = self.outside.saturating_add(1);
+                self.slices |= 1 << (slice % 32);
+            }
+            Tested::SpentInside { .. } => self.count_inside(limit),
+            Tested::Found(_) | Tested::Core(_) | Tested::NoMemory => {}
+        }
     }
 
-    pub fn count_inside(&mut self, limit: u32) {
+    fn count_inside(&mut self, limit: u32) {
         self.inside = self.inside.saturating_add(1);
         if limit == 1 {
             self.inside_at_one = self.inside_at_one.saturating_add(1);
@@ -32,8 +50,15 @@ impl Stops {
 
     pub fn add(&mut self, other: Stops) {
         self.outside = self.outside.saturating_add(other.outside);
+        self.budgets |= other.budgets;
+        self.slices |= other.slices;
         self.inside = self.inside.saturating_add(other.inside);
         self.inside_at_one = self.inside_at_one.saturating_add(other.inside_at_one);
+    }
+
+    /// Whether budgets of 1, 2 and 3 were spent, and slices of 1 and of 2 were used up.
+    pub fn are_of_each_kind(&self) -> bool {
+        self.budgets & 0b1110 == 0b1110 && self.slices == 0b110
     }
 }
 

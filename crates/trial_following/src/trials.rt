@@ -1,0 +1,6 @@
+// The tests, by what they are about.
+mod clauses;
+mod decisions;
+mod questions;
+mod searcher;
+mod silent;
