@@ -50,7 +50,7 @@ impl<T: Theory> Engine<T> {
         if let Err(_) = self.begin() {
             return Answer::NoMemory;
         }
-        self.steering.begin();
+        self.steering.begin(self.state.trail(), budget.used());
         let stop = stop_of(budget, slice);
         match self.run(alloc, assume, budget, stop) {
             Ok(answer) => {

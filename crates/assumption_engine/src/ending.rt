@@ -63,7 +63,10 @@ impl<T: Theory> Engine<T> {
             .theory
             .complete_check(self.state.trail(), &mut self.given, budget.limit())
         {
-            Check::Accept => Ok(Turn::Ended(Answer::Model)),
+            Check::Accept => {
+                self.steering.answered(self.state.trail());
+                Ok(Turn::Ended(Answer::Model))
+            }
             Check::Clause => self.take_given(alloc),
             Check::Spent { set, units } => { Ok(Turn::Ended(Answer::SpentInside { set, units })) }
             Check::NoMemory => Err(NoMemory),

@@ -88,6 +88,15 @@ impl<T: Theory> Engine<T> {
         self.steering.prefer(lits);
     }
 
+    /// Seeks these literals from the next question on, and no others: each is decided first, as it
+    /// is, until the question has had some conflicts, or for good once a model made it true. After
+    /// want of memory all is as before. No answer depends on it.
+    pub fn seek(&mut self, alloc: Global, lits: &[Lit]) -> Result<(), NoMemory>
+        ensures { self.new ≡ record self.old { steering = self.new.steering } }
+    {
+        self.steering.seek(alloc, lits)
+    }
+
     /// Lets variables be decided in the order of another engine, and as they were last there. After
     /// want of memory the order is as before.
     pub fn take_after(&mut self, alloc: Global, other: &Engine<T>) -> Result<(), NoMemory>

@@ -24,7 +24,8 @@ pub struct Steering {
 }
 
 impl Steering {
-    /// Of a search over the variables 1 to `vars`. All other calls but `take_after` take no memory.
+    /// Of a search over the variables 1 to `vars`. All other calls but `take_after` and `seek` take
+    /// no memory.
     pub fn open(alloc: Global, vars: u32) -> Result<Steering, NoMemory>
         requires { vars < 2 ^ 31 }
     {
@@ -52,11 +53,19 @@ impl Steering {
         Ok(())
     }
 
-    /// A question begins, at level 0.
-    pub fn begin(&mut self)
+    /// A question begins, at level 0, or goes on after so many conflicts.
+    pub fn begin(&mut self, trail: &Trail, conflicts: u32)
         ensures { BeginsAtZero self.new.places }
     {
+        self.order.begin(trail, conflicts);
         self.places.begin();
+    }
+
+    /// The total trail is an answer.
+    pub fn answered(&mut self, trail: &Trail)
+        ensures { self.new.places ≡ self.old.places }
+    {
+        self.order.answered(trail);
     }
 
     /// The next assumed literal, or the next variable in the order of decisions, or the check of a
@@ -90,7 +99,7 @@ impl Steering {
         ensures { self.new.places ≡ self.old.places }
     {
         self.bump_all(learned.visited());
-        self.order.decay();
+        self.order.conflict();
         self.pace
             .conflict(self.counter.levels_of(trail, learned.clause.as_slice()));
     }
@@ -120,6 +129,13 @@ impl Steering {
             self.pace.restarted();
         }
         due
+    }
+
+    /// Seeks these literals from the next question on.
+    pub fn seek(&mut self, alloc: Global, lits: &[Lit]) -> Result<(), NoMemory>
+        ensures { self.new.places ≡ self.old.places }
+    {
+        self.order.seek(alloc, lits)
     }
 
     /// Lets the variables of these literals come first, as these literals.

@@ -10,21 +10,14 @@ use Rattle.clause_store.specs.Clause.{AreOver, IsOver, is_negated, variable}
 use Rattle.clause_store.specs.Counted.{Counted}
 use Rattle.clause_store.specs.History.{Added, given, counted, added_clauses, counted_clauses}
 use Rattle.clause_store.specs.History.{given_clauses}
-use Rattle.clause_store.specs.Trail.{Assigned, values_of}
 use Rattle.clause_store.proofs.LiteralLemmas.{lit_of_code}
 use Rattle.normal_program.specs.declared.normal.Normal.{Normal}
 use Rattle.normal_program.specs.Normal.{greatest_body_var}
 use Rattle.normal_program.specs.Clauses.{negative}
 use Rattle.search_state.specs.State.{Searched}
-use Rattle.assumption_engine.specs.declared.answer.Answer.{Answer}
-use Rattle.assumption_engine.specs.declared.answer.Answer.TheVariants.{Model, Core, Spent}
-use Rattle.assumption_engine.specs.declared.answer.Answer.TheVariants.{SpentInside, Paused}
-use Rattle.assumption_engine.specs.declared.answer.Answer.TheVariants.{NoMemory}
-use Rattle.assumption_engine.specs.Answer.{IsAnswer}
 use Rattle.assumption_engine.specs.Engine.{GoesOn, HasCounted, IsModelOf}
 use Rattle.assumption_engine.specs.Sided.{AreAsAssumed, positive}
-use Rattle.assumption_engine.specs.Theory.{Meaning, MeansTheSame}
-use Rattle.assumption_engine.proofs.SameLemmas.{model_back, model_same}
+use Rattle.assumption_engine.specs.Theory.{MeansTheSame}
 use Rattle.assumption_engine.proofs.SidedLemmas.{sided_same}
 use Rattle.coherence_test.specs.AnswerSets.{answer_sets}
 use Rattle.normal_program.specs.Spent.{selector_clauses}

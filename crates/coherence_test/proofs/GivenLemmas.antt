@@ -1,7 +1,7 @@
 -- What weight bodies and founding say, and that what they give is what the theory gives.
 use Rattle.std.proofs.Common.{◌≡◌, ◌≤◌, ◌<◌, ℕ, Bool, List, Option, None, inl, inr, subst, length}
 use Rattle.std.proofs.Common.{arith, ⊎_elim}
-use Rattle.std.specs.Prelude.{All}
+use Rattle.std.specs.Prelude.{All, Err, Ok, OnOk, Result}
 use Rattle.std.proofs.lemmas.List.Elements.{All-contains}
 use Rattle.std.proofs.lemmas.Option.{slice_get_within, get_or_from_slice_get}
 use Rattle.clause_store.specs.declared.literal.Lit.{Lit}
@@ -82,6 +82,15 @@ loop_given normal trail clause is range written = record {
   };
   standing = written.standing;
 }
+
+-- where a call wrote one
+pub loops_given : {A E : Type 0} (normal : Normal) (trail : Assigned) (clause : List Lit)
+    → IsNormal normal → greatest_body_var normal ≤ trail.vars → (result : Result A E)
+    → OnOk result (IsLoopWritten normal trail clause)
+    → OnOk result (IsGiven (answer_sets normal) trail clause)
+loops_given normal trail clause is range (Ok done) written =
+    loop_given normal trail clause is range written
+loops_given normal trail clause is range (Err e) written = tt
 
 -- weight bodies are quiet, and all is founded
 pub nothing_said : (normal : Normal) (inside : Option (List Bool)) (trail : Assigned)

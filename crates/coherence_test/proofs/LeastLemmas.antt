@@ -35,7 +35,6 @@ use Rattle.normal_program.specs.Limit.{IsNormal}
 use Rattle.normal_program.specs.Models.{set_of, IsModelOf}
 use Rattle.normal_program.specs.Spent.{atoms_in}
 use Rattle.item_list.proofs.ListLemmas.{sum_by-agree}
-use Rattle.normal_program.proofs.lemmas.Base.ModelLemmas.{base_clauses-make_models}
 use Rattle.completion.proofs.PartLemmas.{atom_there}
 use Rattle.weight_propagator.specs.Gives.{IsQuiet}
 use Rattle.unfounded_sets.specs.Founding.{is_no, counts_with, founding_weight, HasHeads}
@@ -43,11 +42,11 @@ use Rattle.unfounded_sets.specs.Founding.{IsClosed, KeepsAllOn, LacksOne}
 use Rattle.unfounded_sets.specs.Found.{AreFounded}
 use Rattle.minimality_test.specs.Minimality.{IsMinimal}
 use Rattle.coherence_test.specs.AnswerSets.{HasNoDisjunction}
-use Rattle.coherence_test.specs.Laws.{IsTotalOver, FoundedModelsAreAnswerSets}
+use Rattle.kept_minimality.specs.Total.{IsTotalOver}
+use Rattle.coherence_test.specs.Laws.{FoundedModelsAreAnswerSets}
 use Rattle.coherence_test.specs.Laws.{MinimalModelsAreAnswerSets}
-use Rattle.coherence_test.proofs.TotalLemmas.{total_assignment}
-use Rattle.coherence_test.proofs.QuietLemmas.{in_range, atom_value, part_value, atoms_of_body}
-use Rattle.coherence_test.proofs.QuietLemmas.{quiet_means}
+use Rattle.kept_minimality.proofs.QuietLemmas.{in_range, atom_value, part_value, atoms_of_body}
+use Rattle.kept_minimality.proofs.ModelLemmas.{total_model}
 
 -- ---- sets and decisions
 
@@ -251,10 +250,7 @@ module _ (normal : Normal) (trail : Assigned) (is : IsNormal normal)
   -- an assignment that meets the base clauses and where weight bodies are quiet
   pub candidate_model : Meets (values_of trail) (base_clauses normal)
       → IsQuiet None normal trail.steps → IsModelOf normal (values_of trail)
-  candidate_model meets quiet =
-      base_clauses-make_models normal is (values_of trail)
-      (total_assignment normal trail total) meets
-      (quiet_means normal trail is total quiet)
+  candidate_model meets quiet = total_model normal trail is total meets quiet
 
 pub minimal_models : MinimalModelsAreAnswerSets
 minimal_models normal trail is total meets quiet minimal =

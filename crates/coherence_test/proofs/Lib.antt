@@ -1,5 +1,3 @@
-pub mod TotalLemmas
-pub mod QuietLemmas
 pub mod LeastLemmas
 pub mod LocalLemmas
 pub mod GivenLemmas
@@ -11,3 +9,5 @@ pub mod ZeroLemmas
 pub mod TellLemmas
 pub mod TestLemmas
 pub mod ShareLemmas
+pub mod FrontLemmas
+pub mod RefutedLemmas

@@ -1,63 +1,31 @@
 -- Selectors: what their clauses say, which assignments are models with them, and in which clauses
 -- they stand.
-use Rattle.std.proofs.Common.{◌≡◌, ◌<◌, ◌+◌, ◌*◌, ◌%◌, ◌⊎◌, ℕ, Bool, true, List, [], ◌∷◌, ◌++◌, map}
-use Rattle.std.proofs.Common.{length, take, drop, sym, ap, ◌∙◌, subst, arith, inl, inr}
-use Rattle.std.proofs.Common.{◌≤◌, length-append}
-use Rattle.std.specs.Prelude.{All, Contains}
-use Rattle.std.proofs.Math.Seq.{take-length}
+use Rattle.std.proofs.Common.{◌≡◌, ◌<◌, ◌+◌, ◌*◌, ◌%◌, ◌⊎◌, ℕ, Bool, true, List, [], ◌++◌}
+use Rattle.std.proofs.Common.{length, drop, sym, ap, ◌∙◌, subst, arith, inl, inr}
+use Rattle.std.specs.Prelude.{All}
 use Rattle.std.proofs.lemmas.Bool.{eqb-true}
-use Rattle.std.proofs.lemmas.List.{length-map, take-append-drop, take-append-le}
-use Rattle.std.proofs.lemmas.List.Elements.{All-nil, All-cons, All-head, All-tail, All-weaker}
-use Rattle.std.proofs.lemmas.List.Elements.{All-contains, All-contains_itself}
-use Rattle.std.proofs.lemmas.List.Elements.{Contains-append_left, Contains-push}
+use Rattle.std.proofs.lemmas.List.{take-append-drop}
+use Rattle.std.proofs.lemmas.List.Elements.{All-contains}
 use Rattle.clause_store.specs.declared.literal.Lit.{Lit}
-use Rattle.clause_store.specs.Clause.{AreOver, HoldsIn, IsOver, IsTrueIn, Meets, is_negated}
+use Rattle.clause_store.specs.Clause.{AreOver, HoldsIn, IsOver, Meets, is_negated}
 use Rattle.clause_store.specs.Clause.{variable}
-use Rattle.clause_store.proofs.LiteralLemmas.{any_through}
 use Rattle.normal_program.specs.declared.normal.Normal.{Normal}
-use Rattle.normal_program.specs.Body.{body_holds}
-use Rattle.normal_program.specs.Normal.{extension, first_selector, greatest_body_var, IsAnswerSetN}
-use Rattle.normal_program.specs.Clauses.{AreChosen, IsEntailed, negative}
+use Rattle.normal_program.specs.Normal.{extension, greatest_body_var, IsAnswerSetN}
+use Rattle.normal_program.specs.Clauses.{AreChosen, IsEntailed}
 use Rattle.normal_program.specs.Models.{front_of, set_of}
 use Rattle.normal_program.proofs.lemmas.Entailed.ChoiceLemmas.{HoldsIn-front, HoldsIn-longer}
 use Rattle.normal_program.proofs.lemmas.Entailed.ChoiceLemmas.{length-extension}
 use Rattle.normal_program.proofs.lemmas.Entailed.WideLemmas.{selector_clauses-entailed}
 use Rattle.assumption_engine.specs.Engine.{IsModelOf}
-use Rattle.assumption_engine.specs.Selector.{selector_clause}
 use Rattle.assumption_engine.specs.Sided.{IsOneSided, positive}
 use Rattle.assumption_engine.specs.Theory.{MeansTheSame}
 use Rattle.assumption_engine.proofs.SameLemmas.{model_same}
+use Rattle.kept_minimality.proofs.ModelLemmas.{front_of_extension, set_of_extension}
 use Rattle.coherence_test.specs.AnswerSets.{answer_sets, ExtendsAnswerSet, IsLocalOver}
 use Rattle.normal_program.specs.Spent.{selector_clauses}
 use Rattle.coherence_test.specs.Selectors.{IsInUse}
 
 -- ---- models with selectors
-
--- the set of an assignment that begins with its extension
-set_of_extension : (normal : Normal) (set rest : List Bool) → length set ≡ normal.atoms + 1
-    → set_of normal (extension normal set set ++ rest) ≡ set
-set_of_extension normal set rest positions =
-    let bodies = map (body_holds set set) normal.bodies in
-    let low : normal.atoms + 1 ≤ length (set ++ bodies) =
-    omega (arith, positions, length-append set bodies) in
-    take-append-le (normal.atoms + 1) (set ++ bodies) rest low
-    ∙ take-append-le (normal.atoms + 1) set bodies (omega (arith, positions))
-    ∙ subst (λ n. take n set ≡ set) positions (take-length set)
-
-front_of_extension : (normal : Normal) (set rest : List Bool) → length set ≡ normal.atoms + 1
-    → front_of normal (extension normal set set ++ rest) ≡ extension normal set set
-front_of_extension normal set rest positions =
-    let bodies = map (body_holds set set) normal.bodies in
-    let whole : length (set ++ bodies) ≡ normal.atoms + 1 + length normal.bodies =
-    omega (
-      arith,
-      positions,
-      length-append set bodies,
-      length-map normal.bodies (body_holds set set),
-    ) in
-    take-append-le (normal.atoms + 1 + length normal.bodies) (set ++ bodies) rest
-    (omega (arith, whole))
-    ∙ subst (λ n. take n (set ++ bodies) ≡ set ++ bodies) whole (take-length (set ++ bodies))
 
 -- the extension of an answer set, with each choice of the selectors, is a model
 pub chosen_model : (normal : Normal) (disjunctions : List (List Lit)) (set chosen : List Bool)

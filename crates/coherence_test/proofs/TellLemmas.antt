@@ -44,7 +44,8 @@ use Rattle.coherence_test.proofs.SelectorLemmas.{begins, chosen_model}
 
 -- ---- fronts of assignments
 
-makes_true_front : (values more : List Bool) (lit : Lit) → variable lit < length values
+-- what begins an assignment makes its literals true there
+pub makes_true_front : (values more : List Bool) (lit : Lit) → variable lit < length values
     → makes_true (values ++ more) lit ≡ makes_true values lit
 makes_true_front values more lit low =
     ap (λ t. if is_negated lit then not t else t)
@@ -163,10 +164,11 @@ module _ (normal : Normal) (disjunctions : List (List Lit)) (asked : Asked)
 -- ---- cores
 
 -- each selector as its disjunction holds
-abbrev choices : List Bool → List (List Lit) → List Bool
+abbrev pub choices : List Bool → List (List Lit) → List Bool
 choices values disjunctions = map (λ any. list_any (makes_true values) any) disjunctions
 
-choices_fit : (values : List Bool) (disjunctions : List (List Lit))
+-- so it is chosen
+pub choices_fit : (values : List Bool) (disjunctions : List (List Lit))
     → AreChosen values disjunctions (choices values disjunctions)
 choices_fit values [] = tt
 choices_fit values (any ∷ rest) = (

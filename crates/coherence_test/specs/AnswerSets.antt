@@ -1,5 +1,6 @@
 -- The theory of answer sets: what it means for a search.
-use Rattle.std.specs.Prelude.{◌≡◌, ◌≢◌, ◌↔◌, Bool, List, All, IsTrue, None}
+use Rattle.std.specs.Prelude.{◌≡◌, ◌≢◌, ◌↔◌, Bool, if◌then◌else◌, nat_lt, List, length, take, All}
+use Rattle.std.specs.Prelude.{IsTrue, None}
 use Rattle.ground_program.specs.declared.program.Kind.TheVariants.{Disjunctive}
 use Rattle.ground_program.specs.Meaning.{IsSetOver}
 use Rattle.clause_store.specs.declared.literal.Lit.{Lit}
@@ -16,6 +17,7 @@ use Rattle.normal_program.specs.Limit.{IsNormal}
 use Rattle.normal_program.specs.Models.{set_of, front_of}
 use Rattle.normal_program.specs.Spent.{inner_clauses, IsDisjunctive}
 use Rattle.weight_propagator.specs.Weighed.{Weighed}
+use Rattle.unfounded_sets.specs.Followed.{Founding}
 use Rattle.assumption_engine.specs.Theory.{Meaning}
 
 -- the atoms of an assignment are an answer set, and the assignment begins with its extension;
@@ -70,11 +72,22 @@ pub record Theorised : Type 0 where
   pub normal : Normal
   pub followed : List Followed
 
--- the parts of the theory are of one normal form, and it is known whether a rule is disjunctive
-pub record AreOfOne (normal : Normal) (weights : Weighed) (unfounded : Normal)
+-- the longer of two lists of assignments
+abbrev pub longer : List Followed → List Followed → List Followed
+longer one two = if nat_lt (length one) (length two) then two else one
+
+-- assignments are the first of others
+abbrev pub IsFrontOf : List Followed → List Followed → Type 0
+IsFrontOf one two = one ≡ take (length one) two
+
+-- the parts of the theory are of one normal form, each follows a front of the assignments that are
+-- followed, and it is known whether a rule is disjunctive
+pub record AreOfOne (normal : Normal) (weights : Weighed) (unfounded : Founding)
     (disjunctive : Bool) : Type 0 where
   pub is_normal : IsNormal normal
   pub weighed : weights.normal ≡ normal
   pub everywhere : weights.inside ≡ None
-  pub founded : unfounded ≡ normal
+  pub founded : unfounded.normal ≡ normal
+  pub weights_front : IsFrontOf weights.followed (longer weights.followed unfounded.followed)
+  pub founded_front : IsFrontOf unfounded.followed (longer weights.followed unfounded.followed)
   pub judged : IsTrue disjunctive ↔ IsDisjunctive normal

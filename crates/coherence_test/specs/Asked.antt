@@ -1,11 +1,11 @@
 -- What a test asks, and what its answers say.
-use Rattle.std.specs.Prelude.{◌≡◌, ℕ, Bool, List, All, Contains, IfSome, IsSome, IsTrue, length}
+use Rattle.std.specs.Prelude.{◌≡◌, ◌≤◌, ℕ, Bool, List, All, Contains, IfSome, IsSome, IsTrue, length}
 use Rattle.std.specs.Prelude.{⊤}
 use Rattle.clause_store.specs.declared.literal.Lit.{Lit}
-use Rattle.clause_store.specs.Clause.{HoldsIn, IsTrueIn}
+use Rattle.clause_store.specs.Clause.{HoldsIn, IsTrueIn, variable}
 use Rattle.clause_store.specs.Counted.{Counted}
 use Rattle.normal_program.specs.declared.normal.Normal.{Normal}
-use Rattle.normal_program.specs.Normal.{IsAnswerSetN, extension}
+use Rattle.normal_program.specs.Normal.{IsAnswerSetN, extension, greatest_body_var}
 use Rattle.assumption_engine.specs.Answer.{IsBelow, IsSliceOver}
 use Rattle.coherence_test.specs.AnswerSets.{IsSpentWithin}
 use Rattle.coherence_test.specs.declared.asked.Asked.{Asked}
@@ -13,6 +13,12 @@ use Rattle.coherence_test.specs.declared.asked.Core.{Core}
 use Rattle.coherence_test.specs.declared.asked.Tested.{Tested}
 use Rattle.coherence_test.specs.declared.asked.Tested.TheVariants.{Found, Core as Refuted, Spent}
 use Rattle.coherence_test.specs.declared.asked.Tested.TheVariants.{SpentInside, Paused, NoMemory}
+
+-- no answer set makes a literal true, if it is one of an atom or a body
+abbrev pub IsRefuted : Normal → Lit → Type 0
+IsRefuted normal lit =
+    (set : List Bool) → IsAnswerSetN normal set → variable lit ≤ greatest_body_var normal
+    → ¬ IsTrueIn (extension normal set set) lit
 
 -- an answer set meets what is asked: its extension makes each assumed literal true and, where there
 -- is a disjunction, one literal of it

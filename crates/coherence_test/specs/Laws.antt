@@ -1,10 +1,9 @@
 -- Laws of answer sets and total assignments. Each is a clause of a function in src/laws.rt.
-use Rattle.std.specs.Prelude.{◌≡◌, ◌≤◌, Bool, List, None, Some, IfSome, length}
+use Rattle.std.specs.Prelude.{◌≡◌, Bool, List, None, Some, IfSome, length}
 use Rattle.clause_store.specs.Clause.{Meets, HoldsIn, IsTrueIn}
-use Rattle.clause_store.specs.Trail.{Assigned, IsTrail, IsTotal, values_of}
+use Rattle.clause_store.specs.Trail.{Assigned, values_of}
 use Rattle.clause_store.specs.declared.literal.Lit.{Lit}
 use Rattle.normal_program.specs.declared.normal.Normal.{Normal}
-use Rattle.normal_program.specs.Normal.{greatest_body_var}
 use Rattle.normal_program.specs.Clauses.{base_clauses}
 use Rattle.normal_program.specs.Limit.{IsNormal}
 use Rattle.normal_program.specs.Loop.{IsLocal}
@@ -15,13 +14,8 @@ use Rattle.normal_program.specs.Models.{set_of}
 use Rattle.normal_program.specs.Normal.{extension}
 use Rattle.normal_program.specs.Spent.{IsSpentTest}
 use Rattle.minimality_test.specs.Minimality.{IsMinimal}
+use Rattle.kept_minimality.specs.Total.{IsTotalOver}
 use Rattle.coherence_test.specs.AnswerSets.{ExtendsAnswerSet, HasNoDisjunction, IsSpentWithin}
-
--- a total trail over the variables of atoms and bodies
-pub record IsTotalOver (normal : Normal) (trail : Assigned) : Type 0 where
-  pub is_trail : IsTrail trail
-  pub total : IsTotal trail
-  pub over : greatest_body_var normal ≤ trail.vars
 
 -- without disjunctive rules, a total assignment that meets the base clauses, on which no weight
 -- body gives a clause and all true atoms are founded, extends an answer set

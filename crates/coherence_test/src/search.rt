@@ -8,7 +8,7 @@ ghost use Rattle.normal_program.specs.Normal.{first_selector, greatest_body_var}
 ghost use Rattle.normal_program.specs.Limit.{IsNormal};
 ghost use Rattle.normal_program.specs.Spent.{selector_clauses};
 ghost use Rattle.assumption_engine.specs.Selector.{selector_clause};
-ghost use Rattle.coherence_test.specs.Asked.{IsTested, IsTestedAt};
+ghost use Rattle.coherence_test.specs.Asked.{IsRefuted, IsTested, IsTestedAt};
 ghost use Rattle.coherence_test.specs.Selectors.{AreUsed, IsImport};
 ghost use Rattle.coherence_test.specs.Searching.{HasGiven, HasSelector, IsSelectorOf, Says};
 ghost use Rattle.coherence_test.specs.Searching.{assumed_with, IsAnsweredAt};
@@ -17,7 +17,7 @@ ghost use Rattle.coherence_test.specs.Testing.{IsSound, MayAsk};
 ghost use Rattle.coherence_test.specs.Testing.{selectors, used_by};
 
 use crate::asked::{Asked, Tested};
-use crate::telling::{core_of, core_of_one, false_at_zero, set_on};
+use crate::telling::{core_of, core_of_one, false_at_zero, refuted_on, set_on};
 use crate::theory::AnswerSetTheory;
 use assumption_engine::{Answer, Engine};
 use clause_store::{Budget, Clause, Lit, Units, Var};
@@ -244,6 +244,15 @@ impl<'a> Search<'a> {
         ensures normal { self.new.normal ≡ self.old.normal }
     {
         self.engine.ask(alloc, assumed, budget, slice)
+    }
+
+    /// The literal that the assignment at a place makes false, where that is one of level 0.
+    pub(crate) fn refuted_at(&self, place: u32) -> Option<Lit>
+        requires { IsSound self.now.normal.now self.now.engine self.now.disjunctions }
+        ensures { IfSome result (IsRefuted self.now.normal.now) }
+    {
+        self.engine.vouch();
+        refuted_on(self.engine.trail(), place)
     }
 
     /// What an answer of the engine says of answer sets.

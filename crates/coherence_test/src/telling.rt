@@ -106,6 +106,18 @@ fn is_of_level_zero(trail: &Trail, lit: Lit) -> bool
     }
 }
 
+/// The literal that the assignment at a place makes false, where that is one of level 0.
+pub(crate) fn refuted_on(trail: &Trail, place: u32) -> Option<Lit>
+    ensures { IfSome result (IsFalseAtZero trail.now.steps) }
+{
+    let step = trail.steps().get(place as usize)?;
+    if step.level == 0 {
+        Some(step.lit.negated())
+    } else {
+        None
+    }
+}
+
 /// The core of one literal.
 pub(crate) fn core_of_one(alloc: Global, lit: Lit) -> Answer
     ensures { result ≢ Answer.NoMemory → result ≡ Answer.Core (lit ∷ []) }

@@ -6,7 +6,7 @@ ghost use Rattle.normal_program.specs.Clauses.{base_clauses};
 ghost use Rattle.normal_program.specs.Limit.{IsNormal};
 ghost use Rattle.normal_program.specs.Spent.{selector_clauses};
 ghost use Rattle.short_clauses.specs.Shareable.{IsShareable};
-ghost use Rattle.coherence_test.specs.Asked.{IsTested, IsTestedAt};
+ghost use Rattle.coherence_test.specs.Asked.{IsRefuted, IsTested, IsTestedAt};
 ghost use Rattle.coherence_test.specs.Selectors.{AreUsed, IsImport};
 ghost use Rattle.coherence_test.specs.Sharing.{HasNoted};
 ghost use Rattle.coherence_test.specs.Testing.{AreCountedBeside, HasAdded, HasCountedUnits};
@@ -16,9 +16,9 @@ ghost use Rattle.coherence_test.specs.Testing.{opened, selectors, used_by};
 use crate::asked::{Asked, Tested};
 use crate::search::Search;
 use crate::sharing::note;
-use crate::theory::AnswerSetTheory;
+use crate::theory::{AnswerSetTheory, has_disjunction};
 use assumption_engine::Engine;
-use clause_store::{Budget, Lit, Short, Store, Units};
+use clause_store::{Budget, Clause, Lit, Short, Store, Trail, Units, Value};
 use completion::complete;
 use item_list::NoMemory;
 use normal_program::{Normal, base_clauses_are_entailed, base_clauses_are_over_atoms_and_bodies};
@@ -130,6 +130,28 @@ impl<'a> Tester<'a> {
         self.search.engine.prefer(lits);
     }
 
+    /// Seeks literals from the next test on, and no others, but for those that the last assignment
+    /// of another tester makes true: each is decided first, as it is, until the test has had some
+    /// conflicts, or for good once an answer set made it true. So one answer set shows many of
+    /// them. Where a rule is disjunctive nothing is sought. No answer depends on it.
+    pub fn seek(
+        &mut self,
+        alloc: Global,
+        lits: &[Lit],
+        other: Option<&Tester<'a>>,
+    ) -> Result<(), NoMemory>
+        ensures { self.new ≡ self.old }
+    {
+        if has_disjunction(self.search.normal) {
+            return Ok(());
+        }
+        let left = match other {
+            Some(other) => not_true_on(alloc, lits, other.search.engine.trail())?,
+            None => Clause::from_slice(alloc, lits)?,
+        };
+        self.search.engine.seek(alloc, left.as_slice())
+    }
+
     /// How many disjunctions that are new may still be asked for.
     pub fn selectors_left(&self) -> u32
         ensures left { result ≡ selectors self.now.normal - length self.now.disjunctions }
@@ -223,6 +245,18 @@ impl<'a> Tester<'a> {
         }
     }
 
+    /// The literal that the assignment at a place makes false, where that is one of level 0. No
+    /// answer set makes it true, if it is of an atom or a body. The assignments of level 0 come
+    /// first, from place 0 on, and stay there. After want of memory there is none.
+    pub fn refuted_at(&self, place: u32) -> Option<Lit>
+        ensures { IfSome result (IsRefuted self.now.normal) }
+    {
+        if self.dead {
+            return None;
+        }
+        self.search.refuted_at(place)
+    }
+
     /// Gives a clause of one to three literals without a selector that was counted by a test and
     /// wasn't given before. There is none only where none is left. It takes no memory.
     pub fn take_shareable(&mut self) -> Option<Short>
@@ -233,4 +267,15 @@ impl<'a> Tester<'a> {
     {
         self.left.pop()
     }
+}
+
+/// The literals that aren't true on a trail.
+fn not_true_on(alloc: Global, lits: &[Lit], trail: &Trail) -> Result<Clause, NoMemory> {
+    let mut left = Clause::open();
+    for lit in lits {
+        if !trail.has(*lit) || trail.value(*lit) != Value::Yes {
+            left.push(alloc, *lit)?;
+        }
+    }
+    Ok(left)
 }

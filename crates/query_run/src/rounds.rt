@@ -19,7 +19,7 @@ use worker_strategies::Worker;
 pub struct Rounds<'a> {
     pub(crate) normal: &'a Normal,
     pub(crate) master: Master<'a>,
-    pub(crate) worker: Worker<'a>,
+    pub(crate) worker: Box<Worker<'a>>,
     /// How many clauses a test may count.
     pub(crate) budget: u32,
     /// How many of them in one round.
@@ -29,13 +29,14 @@ pub struct Rounds<'a> {
 }
 
 impl<'a> Model for Rounds<'a> {
+    ghost use Rattle.std.specs.Prelude.{box_value};
     ghost use Rattle.query_run.specs.Way.{Way, IsRunOf};
 
     ghost Value = { Way };
 
     ghost view = { λ it. record {
       books = it.master;
-      worker = it.worker;
+      worker = box_value it.worker;
       slice = it.slice;
       sized = it.sized;
     } };
@@ -64,7 +65,7 @@ impl<'a> Rounds<'a> {
         let budget = settings.budget;
         let master = Master::open(alloc, normal, mode, settings.strategy, 1, budget)?;
         master.vouch();
-        let worker = Worker::open(alloc, normal, mode, 1, budget)?;
+        let worker = Box::new(alloc, Worker::open(alloc, normal, mode, 1, budget)?)?;
         Ok(Rounds {
             normal,
             master,

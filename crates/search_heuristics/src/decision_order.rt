@@ -5,6 +5,7 @@ ghost use Rattle.clause_store.specs.Clause.{IsOver, variable};
 ghost use Rattle.clause_store.specs.Trail.{IsTotal, step_of, value_of};
 
 use crate::activity_heap::ActivityHeap;
+use crate::sought::Sought;
 use clause_store::{Lit, Step, Trail, Value, Var};
 use item_list::NoMemory;
 use std::alloc::Global;
@@ -14,12 +15,15 @@ use std::alloc::Global;
 pub struct DecisionOrder {
     bumped: ActivityHeap,
     phases: Vec<bool>,
+    /// The values of the last answer, where something is sought.
+    answer: Vec<bool>,
+    sought: Sought,
     passed: u32,
 }
 
 impl DecisionOrder {
     /// The order of the variables 1 to `vars`: no variable was bumped, and each is decided false.
-    /// All other calls but `copy` take no memory.
+    /// All other calls but `copy` and `seek` take no memory.
     pub fn open(alloc: Global, vars: u32) -> Result<DecisionOrder, NoMemory>
         requires { vars < 2 ^ 31 }
     {
@@ -28,6 +32,8 @@ impl DecisionOrder {
         Ok(DecisionOrder {
             bumped,
             phases,
+            answer: Vec::new(alloc),
+            sought: Sought::open(alloc),
             passed: 0,
         })
     }
@@ -36,16 +42,21 @@ impl DecisionOrder {
     pub fn copy(&self, alloc: Global) -> Result<DecisionOrder, NoMemory> {
         let bumped = self.bumped.copy(alloc)?;
         let phases = Vec::from_slice(alloc, self.phases.as_slice())?;
+        let answer = Vec::from_slice(alloc, self.answer.as_slice())?;
+        let sought = self.sought.copy(alloc)?;
         Ok(DecisionOrder {
             bumped,
             phases,
+            answer,
+            sought,
             passed: self.passed,
         })
     }
 
-    /// The literal to decide. Its variable is the unset one of the greatest activity, or the first
-    /// unset one where only variables that were never bumped are unset. Its sign is the phase of
-    /// the variable. None exactly where all variables of the trail are assigned.
+    /// The literal to decide: the next one that is sought. Else its variable is the unset one of
+    /// the greatest activity, or the first unset one where only variables that were never bumped
+    /// are unset, and its sign is the phase of the variable. None exactly where all variables of
+    /// the trail are assigned.
     pub fn next(&mut self, trail: &Trail) -> Option<Lit>
         ensures none { IfNone result (IsTotal trail.now) }
         ensures over { IfSome result (IsOver trail.now.vars) }
@@ -54,21 +65,51 @@ impl DecisionOrder {
         if is_total(trail) {
             return None;
         }
+        if let Some(lit) = self.sought.next(trail) {
+            return Some(lit);
+        }
         match self.next_variable(trail) {
             Some(lit) => Some(self.with_phase(lit)),
             None => None,
         }
     }
 
+    /// Seeks literals from the next question on: each is decided first, as it is, until the
+    /// question has had ten conflicts, or for good once an answer made it true. After want of
+    /// memory the order is as before.
+    pub fn seek(&mut self, alloc: Global, lits: &[Lit]) -> Result<(), NoMemory> {
+        let answer = Vec::from_slice(alloc, self.phases.as_slice())?;
+        self.sought.seek(alloc, self.phases.len(), lits)?;
+        self.answer = answer;
+        Ok(())
+    }
+
+    /// A question begins on a trail of level 0, or goes on after so many conflicts.
+    pub fn begin(&mut self, trail: &Trail, conflicts: u32) {
+        self.sought.begin(trail, conflicts);
+    }
+
+    /// A conflict came. All activities lose a twentieth of their weight. Where sought literals
+    /// wait from now on, variables are decided as they were in the last answer.
+    pub fn conflict(&mut self) {
+        self.bumped.decay();
+        if self.sought.gives_up() {
+            copy_over(self.answer.as_slice(), self.phases.as_mut_slice());
+        }
+    }
+
+    /// The total trail is an answer. The sought literals that it makes true are settled.
+    pub fn answered(&mut self, trail: &Trail) {
+        for step in trail.steps() {
+            set_value(&mut self.answer, step.lit);
+        }
+        self.sought.settle(trail);
+    }
+
     /// Adds to the activity of a variable that analysis visits. It is in the order by that once it
     /// is assigned and unset again.
     pub fn bump(&mut self, var: Var) {
         self.bumped.bump(var);
-    }
-
-    /// Lets all activities lose a twentieth of their weight. It is called after a conflict.
-    pub fn decay(&mut self) {
-        self.bumped.decay();
     }
 
     /// Lets the variables of these literals come first, as these literals. Their lead over bumped
@@ -82,10 +123,7 @@ impl DecisionOrder {
 
     /// Lets a variable be decided as this literal, until another value is saved.
     pub fn set_phase(&mut self, lit: Lit) {
-        let at = lit.var().0 as usize;
-        if at < self.phases.len() {
-            self.phases[at] = !lit.is_negated();
-        }
+        set_value(&mut self.phases, lit);
     }
 
     /// Takes the variables of the assignments above a level back into the order, with their values
@@ -103,6 +141,7 @@ impl DecisionOrder {
     fn take_one_back(&mut self, lit: Lit) {
         self.set_phase(lit);
         let var = lit.var();
+        self.sought.put_back(var);
         if !self.bumped.put_back(var) {
             self.passed = self.passed.min(var.0.saturating_sub(1));
         }
@@ -149,6 +188,21 @@ impl DecisionOrder {
     /// Whether the phase of a variable is true.
     fn is_true_first(&self, var: Var) -> bool {
         self.phases.get(var.0 as usize).copied().unwrap_or(false)
+    }
+}
+
+/// Keeps the value that a literal gives its variable, if that has a place.
+fn set_value(values: &mut Vec<bool>, lit: Lit) {
+    let at = lit.var().0 as usize;
+    if at < values.len() {
+        values[at] = !lit.is_negated();
+    }
+}
+
+/// Copies values over others, as far as both go.
+fn copy_over(from: &[bool], to: &mut [bool]) {
+    for at in 0..from.len().min(to.len()) {
+        to[at] = from[at];
     }
 }
 

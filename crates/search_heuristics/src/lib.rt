@@ -8,6 +8,7 @@ mod decision_order;
 pub mod laws;
 mod level_counter;
 mod restart_pace;
+mod sought;
 #[cfg(test)]
 mod tests;
 

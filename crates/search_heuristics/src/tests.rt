@@ -74,7 +74,7 @@ fn first_after(alloc: Global, conflicts: u32) -> Result<Option<Lit>, NoMemory> {
     order.prefer(&[Lit(8)]);
     for _ in 0..conflicts {
         order.bump(Var(2));
-        order.decay();
+        order.conflict();
     }
     start_anew(&mut order, &mut trail);
     order.set_phase(Lit(8));
@@ -225,5 +225,39 @@ fn found_in_order(alloc: Global, assumed: &[Lit]) -> Result<[Option<usize>; 5], 
 fn assumed_literals_are_found_one_after_another(rt: HostRuntime) -> Result<(), Fail> {
     let found = found_in_order(rt.alloc(), &[Lit(2), Lit(2), Lit(5), Lit(6)])?;
     assert_eq!(rt; found, [Some(0), Some(2), Some(3), None, Some(2)]);
+    Ok(())
+}
+
+/// The literals that are decided where two are sought, and then again after an answer in which one
+/// of them was false.
+fn sought_until_shown(alloc: Global) -> Result<bool, NoMemory> {
+    let mut order = DecisionOrder::open(alloc, 4)?;
+    let mut trail = Trail::open(alloc, 4)?;
+    order.seek(alloc, &[Lit(8), Lit(6)])?;
+    order.begin(&trail, 0);
+    make_true(&mut trail, Lit(7));
+    let first = decide_all(alloc, &mut order, &mut trail)?;
+    order.answered(&trail);
+    start_anew(&mut order, &mut trail);
+    order.begin(&trail, 0);
+    let second = decide_all(alloc, &mut order, &mut trail)?;
+    start_anew(&mut order, &mut trail);
+    order.begin(&trail, 4);
+    for _ in 0..6 {
+        order.conflict();
+    }
+    let third = decide_all(alloc, &mut order, &mut trail)?;
+    Ok(
+        first.as_slice() == [8, 3, 5].as_slice()
+            && second.as_slice() == [6, 3, 5, 8].as_slice()
+            && third.as_slice() == [3, 5, 7, 8].as_slice(),
+    )
+}
+
+#[test]
+fn a_sought_literal_comes_first_until_an_answer_or_ten_conflicts(
+    rt: HostRuntime,
+) -> Result<(), Fail> {
+    assert!(rt; sought_until_shown(rt.alloc())?);
     Ok(())
 }

@@ -1,5 +1,6 @@
 // The tests, by what they are about.
 mod bytes;
+mod many_names;
 mod numbers;
 mod printed_texts;
 mod report_lines;

@@ -32,7 +32,7 @@ pub All-only : {X : Type 0} (P : X → Type 0) (x : X) → All P (x ∷ []) → 
 All-only P x all = all 0 x (omega arith)
 
 -- more atoms reach more
-if-more : (a b : Bool) (weight : ℕ) → (a ≡ true → b ≡ true)
+pub if-more : (a b : Bool) (weight : ℕ) → (a ≡ true → b ≡ true)
     → (if a then weight else 0) ≤ (if b then weight else 0)
 if-more true true weight more = omega arith
 if-more true false weight more = absurd (let e : false ≡ true = more refl in cc)

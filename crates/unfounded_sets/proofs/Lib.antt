@@ -3,3 +3,15 @@ pub mod FoundingLemmas
 pub mod WantedLemmas
 pub mod LoopLemmas
 pub mod SingleLemmas
+pub mod StackLemmas
+pub mod MemberLemmas
+pub mod GrownLemmas
+pub mod PartLemmas
+pub mod PlacedLemmas
+pub mod FalseLemmas
+pub mod SourceLemmas
+pub mod ChangeLemmas
+pub mod KeepLemmas
+pub mod FollowLemmas
+pub mod LookLemmas
+pub mod TrailLemmas

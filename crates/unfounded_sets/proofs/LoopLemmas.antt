@@ -196,22 +196,22 @@ closed_keeps normal steps set closed k rule within reached = inl (closed k rule 
 
 -- ---- the loop clause
 
-lit_found : (clause : List Lit) (lit : Lit) → Contains clause lit → has_lit clause lit ≡ true
+pub lit_found : (clause : List Lit) (lit : Lit) → Contains clause lit → has_lit clause lit ≡ true
 lit_found clause lit here =
     list_any-from_Any (is_lit lit) clause
     (any_from (λ one. is_lit lit one ≡ true) clause lit here (eq-eqb lit.0 lit.0 refl))
 
-atom_found : (atoms : List ℕ) (atom : ℕ) → Contains atoms atom → has_atom atoms atom ≡ true
+pub atom_found : (atoms : List ℕ) (atom : ℕ) → Contains atoms atom → has_atom atoms atom ≡ true
 atom_found atoms atom here =
     list_any-from_Any (eqb atom) atoms
     (any_from (λ one. eqb atom one ≡ true) atoms atom here (eq-eqb atom atom refl))
 
-if_positive : (negated one two : Bool) → (one ≡ true → two ≡ true)
+pub if_positive : (negated one two : Bool) → (one ≡ true → two ≡ true)
     → (if negated then false else one) ≡ true → (if negated then false else two) ≡ true
 if_positive true one two more is = is
 if_positive false one two more is = more is
 
-cells : (has over wanted part : Bool) (weight : ℕ) → (wanted ≡ true → has ≡ true)
+pub cells : (has over wanted part : Bool) (weight : ℕ) → (wanted ≡ true → has ≡ true)
     → (part ≡ true → over ≡ true)
     → (if not (has || over) then weight else 0) ≤ (if wanted || part then 0 else weight)
 cells true over wanted part weight first second = omega arith
@@ -223,7 +223,7 @@ cells false false false true weight first second =
 cells false false false false weight first second = omega arith
 
 -- a literal isn't false where one of its variable is unset
-unset_apart : (steps : List Step) (one two : Lit) → variable one ≡ variable two
+pub unset_apart : (steps : List Step) (one two : Lit) → variable one ≡ variable two
     → IsFalse steps one → value_of steps two ≡ Unset → ⊥
 unset_apart steps one two same denied unset = go (step_of steps (variable one)) refl
   where

@@ -46,11 +46,11 @@ pub in_or_out : (set : List Bool) (atom : ℕ) → IsIn set atom ⊎ (has set at
 in_or_out set atom = cases_Bool (has set atom)
 
 -- two false literals of one variable are the same
-other_code : (one two step : ℕ) → one / 2 ≡ two / 2 → step / 2 ≡ one / 2 → step ≢ one → step ≢ two
-    → one ≡ two
+pub other_code : (one two step : ℕ) → one / 2 ≡ two / 2 → step / 2 ≡ one / 2 → step ≢ one
+    → step ≢ two → one ≡ two
 other_code one two step same here not_one not_two = omega arith
 
-no_by : (b : Bool) → cond b Yes No ≡ No → b ≡ false
+pub no_by : (b : Bool) → cond b Yes No ≡ No → b ≡ false
 no_by true is = absurd (cc)
 no_by false is = refl
 

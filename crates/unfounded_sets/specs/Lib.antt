@@ -3,3 +3,10 @@ pub mod Found
 pub mod Single
 pub mod Rounds
 pub mod Wanted
+pub mod Waits
+pub mod Parts
+pub mod Placed
+pub mod Sources
+pub mod Members
+pub mod Grown
+pub mod Followed

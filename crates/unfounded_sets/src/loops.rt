@@ -128,7 +128,7 @@ fn has_head(rule: &NormalRule, part: &[bool]) -> bool
 }
 
 /// Whether the literals of a body that aren't over the part stay below its bound.
-fn stays_below(body: &BodyOf, part: &[bool]) -> bool
+pub fn stays_below(body: &BodyOf, part: &[bool]) -> bool
     ensures { IsTrue result ↔ weight_off part.now body.now.parts < body.now.bound }
 {
     let mut left = u64::from(body.bound);

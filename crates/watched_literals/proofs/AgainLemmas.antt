@@ -2,13 +2,15 @@
 use Rattle.std.proofs.Common.{◌≡◌, ◌≤◌, ◌<◌, ◌+◌, ◌*◌, ℕ, List, [], ◌∷◌, ◌++◌}
 use Rattle.std.proofs.Common.{length, length-append, get_or, map, Some, sym, ap, subst}
 use Rattle.std.proofs.Common.{◌∙◌, arith, inl, inr}
-use Rattle.std.specs.Prelude.{slice_get}
+use Rattle.std.specs.Prelude.{slice_get, All}
 use Rattle.std.proofs.lemmas.Bool.{cases_eq}
 use Rattle.std.proofs.lemmas.List.{append-nil, get_or_default}
+use Rattle.std.proofs.lemmas.List.Elements.{All-contains}
 use Rattle.std.proofs.lemmas.Option.{same_Some}
 use Rattle.clause_store.specs.declared.literal.Lit.{Lit}
 use Rattle.clause_store.specs.declared.literal.ClauseRef.{ClauseRef}
 use Rattle.clause_store.specs.declared.step.Step.{Step}
+use Rattle.clause_store.specs.Clause.{IsOver}
 use Rattle.clause_store.specs.Trail.{Assigned}
 use Rattle.clause_store.specs.Standing.{as_followed, Followed}
 use Rattle.propagator.specs.Fixpoint.{Extends, IsQuietOn}
@@ -19,7 +21,7 @@ use Rattle.watched_literals.specs.Chains.{lit_of}
 use Rattle.watched_literals.specs.Pends.{HasAllWaiting, IsLeftOut, Waited}
 use Rattle.watched_literals.specs.Walking.{AreFirstQuiet, ArePendingQuiet, HasLooked, IsQuietAt}
 use Rattle.watched_literals.specs.Walking.{IsRunning, IsSettledRow, SettlesAll}
-use Rattle.watched_literals.specs.Watching.{AreSettled, HoldsForGood}
+use Rattle.watched_literals.specs.Watching.{AreNone, AreSettled, HoldsForGood, IsRow}
 use Rattle.watched_literals.proofs.WatchingLemmas.{IsUnmarked, watching_unmarked}
 
 -- ---- the place of the next look
@@ -127,9 +129,8 @@ run_unmarked clauses entries trail old new next row lits was is lits_are settled
   watching =
       watching_unmarked trail.vars entries old new (map as_followed trail.steps) next row
       was.watching is (settled.both next)
-      (λ d short. subst (λ clause. HoldsForGood (map as_followed trail.steps) clause)
-      (sym (lits_are d))
-      (settled.good (subst (λ clause. length clause < 2) (lits_are d) short)));
+      (λ d none_is. subst (λ clause. HoldsForGood (map as_followed trail.steps) clause)
+      (sym (lits_are d)) (settled.good none_is));
 }
 
 -- both watched literals are settled, as they were read
@@ -161,3 +162,12 @@ pub numbered : (entries : List Attached) (row : ℕ) (entry : Attached) (number 
 numbered entries row entry number within entry_is number_is d =
     ap (λ (it : Attached). it.at) (get_or_default entries row d entry within ∙ sym entry_is)
     ∙ sym number_is
+
+-- a clause that isn't watched at a literal of its own is watched at none
+pub none_of_row : (known : List Followed) (vars : ℕ) (lits : List Lit) (saved : ℕ)
+    (one two : Lit) → All (IsOver vars) lits → IsRow known lits saved one two → one.0 ≡ 0
+    → AreNone one two
+none_of_row known vars lits saved one two over (inl is) zero =
+    let here : IsOver vars one = All-contains (IsOver vars) lits one over is.pair.one_here in
+    absurd (omega (arith, here.first, zero))
+none_of_row known vars lits saved one two over (inr none_is) zero = none_is

@@ -16,7 +16,7 @@ use Rattle.clause_store.specs.Standing.{Followed, as_followed}
 use Rattle.clause_store.proofs.LiteralLemmas.{lit_of_code}
 use Rattle.clause_store.proofs.StepLemmas.{step_of_unset, value_of_new}
 use Rattle.propagator.proofs.HoldLemmas.{assigned_yes}
-use Rattle.watched_literals.specs.Watching.{IsTrueBy}
+use Rattle.watched_literals.specs.Watching.{AreNone, IsPair, IsRow, IsTrueBy}
 
 abbrev no_step : Step
 no_step = record { lit = record { 0 = 0 }; reason = None; level = 0 }
@@ -181,3 +181,23 @@ pub newly_yes : (steps : List Step) (step : Step) → value_of steps step.lit �
 newly_yes steps step unset =
     value_of_new steps step step.lit (step_of_unset steps step.lit unset) refl
     ∙ ap (λ b. cond b Yes No) (eq-eqb step.lit.0 step.lit.0 refl)
+
+-- ---- the literals at which a clause is watched
+
+-- two literals of a clause aren't both of the code that none has
+pub none_apart : (lits : List Lit) (one two : Lit) → IsPair lits one two → ¬ AreNone one two
+none_apart lits one two pair none_is =
+    pair.differ (lit_of_code one two (none_is.one_none ∙ sym none_is.two_none))
+
+-- what is true for good may be known otherwise
+pub row_maps : (old new : List Followed) (lits : List Lit) (saved : ℕ) (one two : Lit)
+    → ((lit : Lit) → IsTrueBy 0 old lit → IsTrueBy 0 new lit)
+    → IsRow old lits saved one two → IsRow new lits saved one two
+row_maps old new lits saved one two maps (inl is) =
+    inl (record {
+      pair = is.pair;
+      binary =
+          λ none_is k d within not_one not_two. maps (negation (get_or lits k d))
+          (is.binary none_is k d within not_one not_two);
+    })
+row_maps old new lits saved one two maps (inr none_is) = inr none_is

@@ -14,3 +14,5 @@ pub mod RunLemmas
 pub mod QuietLemmas
 pub mod AgainLemmas
 pub mod ReadyLemmas
+pub mod RelinkLemmas
+pub mod LayingLemmas

@@ -1,5 +1,5 @@
 -- Watches when one node went into the chain of another literal.
-use Rattle.std.proofs.Common.{◌≡◌, ◌≢◌, ◌≤◌, ◌<◌, ◌+◌, ◌*◌, ◌/◌, ℕ, false}
+use Rattle.std.proofs.Common.{◌≡◌, ◌≢◌, ◌<◌, ◌+◌, ◌*◌, ◌/◌, ℕ, false}
 use Rattle.std.proofs.Common.{List}
 use Rattle.std.proofs.Common.{length, length-set, get_or, set, get_or-set_same, get_or-set_other}
 use Rattle.std.proofs.Common.{sym, ap, subst, ◌∙◌, arith, inl, inr, ◌⊎◌}
@@ -13,8 +13,10 @@ use Rattle.watched_literals.specs.declared.chains.Node.{Node}
 use Rattle.watched_literals.specs.declared.tables.Tables.{Tables}
 use Rattle.watched_literals.specs.Chains.{none, node_of, lit_of, AreLinked, IsUnlinked}
 use Rattle.watched_literals.specs.Watching.{IsTrueBy, IsSettled, AreSettled}
-use Rattle.watched_literals.specs.Watching.{IsRow, AreWatching, IsDone, IsMoved, partner_of}
+use Rattle.watched_literals.specs.Watching.{AreNone, AreWatching, HoldsForGood, IsDone, IsMoved}
+use Rattle.watched_literals.specs.Watching.{IsPair, IsRow, partner_of}
 use Rattle.watched_literals.proofs.ChainLemmas.{node_other, node_same}
+use Rattle.watched_literals.proofs.KnownLemmas.{none_apart}
 
 -- where a node was unlinked, the nodes have the literals that they had
 module _ (nodes : List Node) (heads : List ℕ) (code last next : ℕ) (half : List Node)
@@ -118,7 +120,10 @@ module _ (vars : ℕ) (entries : List Attached) (old new : Tables) (known : List
       → (get_or known k d).lit ≢ negation to)
       (here : (d : Attached) → Contains (get_or entries (at / 2) d).lits to)
       (differs : to ≢ lit_of old.chains.nodes.items (partner_of at))
-      (long : (d : Attached) → 2 ≤ length (get_or entries (at / 2) d).lits) where
+      (seated : (d : Attached)
+      → IsPair (get_or entries (at / 2) d).lits
+      (lit_of old.chains.nodes.items (2 * (at / 2)))
+      (lit_of old.chains.nodes.items (2 * (at / 2) + 1))) where
     row_within : at / 2 < length entries
     row_within =
         let n : at < 2 * length entries = omega (arith, within, was.nodes) in grind (arith, n)
@@ -138,7 +143,7 @@ module _ (vars : ℕ) (entries : List Attached) (old new : Tables) (known : List
                 other_here =
                     λ d. subst (Contains (get_or entries (at / 2) d).lits)
                     (ap (lit_of old.chains.nodes.items) (sym p))
-                    ((was.rows (at / 2) d row_within).pair (long d)).two_here;
+                    (seated d).two_here;
                 other_settled =
                     λ off. subst
                     (λ one. IsSettled known next one lit)
@@ -154,7 +159,7 @@ module _ (vars : ℕ) (entries : List Attached) (old new : Tables) (known : List
                 other_here =
                     λ d. subst (Contains (get_or entries (at / 2) d).lits)
                     (ap (lit_of old.chains.nodes.items) (sym p))
-                    ((was.rows (at / 2) d row_within).pair (long d)).one_here;
+                    (seated d).one_here;
                 other_settled =
                     λ off. subst
                     (λ one. IsSettled known next one lit)
@@ -192,7 +197,7 @@ module _ (vars : ℕ) (entries : List Attached) (old new : Tables) (known : List
         (omega (arith, row_within, was.saved))
 
     row_else : (number : ℕ) (d : Attached) → number < length entries → number ≢ at / 2
-        → IsRow (get_or entries number d).lits (get_or new.saved.items number 0)
+        → IsRow known (get_or entries number d).lits (get_or new.saved.items number 0)
         (lit_of new.chains.nodes.items (2 * number))
         (lit_of new.chains.nodes.items (2 * number + 1))
     row_else number d inside other =
@@ -214,42 +219,72 @@ module _ (vars : ℕ) (entries : List Attached) (old new : Tables) (known : List
         )
         (was.settled number inside (off_before number off))
 
+    pair_here : (d : Attached)
+        → IsPair (get_or entries (at / 2) d).lits
+        (lit_of new.chains.nodes.items (2 * (at / 2)))
+        (lit_of new.chains.nodes.items (2 * (at / 2) + 1))
+    pair_here d =
+        elim (side at) [
+          | inl even ↦
+              let p : partner_of at ≡ 2 * (at / 2) + 1 = grind (arith, even) in
+              rw (
+                ap (lit_of new.chains.nodes.items) (sym even) ∙ lit_here,
+                lit_else (2 * (at / 2) + 1) (λ same. omega (arith, same, even))
+                    ∙ ap (lit_of old.chains.nodes.items) (sym p),
+              )
+              (record {
+                one_here = here d;
+                two_here = other_is.other_here d;
+                differ = differs;
+              })
+          | inr odd ↦
+              let p : partner_of at ≡ 2 * (at / 2) = grind (arith, odd) in
+              rw (
+                ap (lit_of new.chains.nodes.items) (sym odd) ∙ lit_here,
+                lit_else (2 * (at / 2)) (λ same. omega (arith, same, odd))
+                    ∙ ap (lit_of old.chains.nodes.items) (sym p),
+              )
+              (record {
+                one_here = other_is.other_here d;
+                two_here = here d;
+                differ = λ same. differs (sym same);
+              })
+        ]
+
     row_here : (d : Attached)
-        → IsRow (get_or entries (at / 2) d).lits (get_or new.saved.items (at / 2) 0)
+        → IsRow known (get_or entries (at / 2) d).lits (get_or new.saved.items (at / 2) 0)
         (lit_of new.chains.nodes.items (2 * (at / 2)))
         (lit_of new.chains.nodes.items (2 * (at / 2) + 1))
     row_here d =
-        record {
-          pair =
-              λ two. elim (side at) [
-                | inl even ↦
-                    let p : partner_of at ≡ 2 * (at / 2) + 1 = grind (arith, even) in
-                    rw (
-                      ap (lit_of new.chains.nodes.items) (sym even) ∙ lit_here,
-                      lit_else (2 * (at / 2) + 1) (λ same. omega (arith, same, even))
-                          ∙ ap (lit_of old.chains.nodes.items) (sym p),
-                    )
-                    (record {
-                      one_here = here d;
-                      two_here = other_is.other_here d;
-                      differ = differs;
-                    })
-                | inr odd ↦
-                    let p : partner_of at ≡ 2 * (at / 2) = grind (arith, odd) in
-                    rw (
-                      ap (lit_of new.chains.nodes.items) (sym odd) ∙ lit_here,
-                      lit_else (2 * (at / 2)) (λ same. omega (arith, same, odd))
-                          ∙ ap (lit_of old.chains.nodes.items) (sym p),
-                    )
-                    (record {
-                      one_here = other_is.other_here d;
-                      two_here = here d;
-                      differ = λ same. differs (sym same);
-                    })
-              ];
-          short = λ few. absurd (omega (arith, few, long d));
+        inl (record {
+          pair = pair_here d;
           binary = λ none_is. absurd (is.short (sym saved_here ∙ none_is));
-        }
+        })
+
+    good_else : (number : ℕ) (d : Attached) → number < length entries
+        → AreNone (lit_of new.chains.nodes.items (2 * number))
+        (lit_of new.chains.nodes.items (2 * number + 1))
+        → get_or new.pending.waits number false ≡ false
+        → HoldsForGood known (get_or entries number d).lits
+    good_else number d inside none_is off =
+        elim (cases_eq number (at / 2)) [
+          | inl same ↦
+              absurd
+              (none_apart (get_or entries (at / 2) d).lits
+              (lit_of new.chains.nodes.items (2 * (at / 2)))
+              (lit_of new.chains.nodes.items (2 * (at / 2) + 1)) (pair_here d)
+              (subst
+              (λ r. AreNone (lit_of new.chains.nodes.items (2 * r))
+              (lit_of new.chains.nodes.items (2 * r + 1))) same none_is))
+          | inr other ↦
+              was.detached number d inside
+              (subst
+              (λ lit. AreNone lit (lit_of old.chains.nodes.items (2 * number + 1)))
+              (lit_else (2 * number) (λ same. other (grind (arith, same))))
+              (subst (AreNone (lit_of new.chains.nodes.items (2 * number)))
+              (lit_else (2 * number + 1) (λ same. other (grind (arith, same)))) none_is))
+              (off_before number off)
+        ]
 
     settled_here : get_or new.pending.waits (at / 2) false ≡ false
         → AreSettled known next (lit_of new.chains.nodes.items (2 * (at / 2)))
@@ -302,7 +337,7 @@ module _ (vars : ℕ) (entries : List Attached) (old new : Tables) (known : List
           λ number d inside. elim (cases_eq number (at / 2)) [
             | inl same ↦
                 subst
-                (λ r. IsRow (get_or entries r d).lits (get_or new.saved.items r 0)
+                (λ r. IsRow known (get_or entries r d).lits (get_or new.saved.items r 0)
                 (lit_of new.chains.nodes.items (2 * r))
                 (lit_of new.chains.nodes.items (2 * r + 1))) (sym same) (row_here d)
             | inr other ↦ row_else number d inside other
@@ -316,7 +351,6 @@ module _ (vars : ℕ) (entries : List Attached) (old new : Tables) (known : List
                 (settled_here (ap (λ r. get_or new.pending.waits r false) (sym same) ∙ off))
             | inr other ↦ settled_else number inside other off
           ];
-      shorts =
-          λ number d inside short off. was.shorts number d inside short (off_before number off);
+      detached = good_else;
       reached = was.reached;
     }

@@ -52,7 +52,7 @@ found_at steps lit step found =
     )
 
 -- an assignment made it false
-false_made : (steps : List Step) (lit : Lit) → value_of steps lit ≡ No
+pub false_made : (steps : List Step) (lit : Lit) → value_of steps lit ≡ No
     → (k : ℕ) × (k < length steps) × ((get_or steps k no_step).lit ≡ negation lit)
 false_made steps lit is_no = go (step_of steps (variable lit)) refl is_no
   where
@@ -235,14 +235,13 @@ all_quiet clauses entries trail tables next running all pending number d within 
     elim (cases_Bool (get_or tables.pending.waits number false)) [
       | inl on ↦ pending number d within on
       | inr off ↦
-          elim (cases_lt (length (get_or entries number d).lits) 2) [
-            | inl short ↦
+          elim (running.watching.rows number d within) [
+            | inl seated ↦
+                quiet_settled trail next (get_or entries number d).lits _ _ running.is_trail all
+                (running.watching.settled number within off) seated.pair
+            | inr none_is ↦
                 quiet_satisfied trail.steps (get_or entries number d).lits
                 (good_yes trail (get_or entries number d).lits running.is_trail
-                (running.watching.shorts number d within short off))
-            | inr long ↦
-                quiet_settled trail next (get_or entries number d).lits _ _ running.is_trail all
-                (running.watching.settled number within off)
-                ((running.watching.rows number d within).pair long)
+                (running.watching.detached number d within none_is off))
           ]
     ]

@@ -31,7 +31,7 @@ use Rattle.watched_literals.proofs.WalkLemmas.{walk_begins, walk_maps, walk_ends
 use Rattle.watched_literals.proofs.WalkLemmas.{walk_stays}
 use Rattle.watched_literals.proofs.MoveLemmas.{walk_moves}
 use Rattle.watched_literals.proofs.LinkLemmas.{left_falls}
-use Rattle.watched_literals.proofs.SeatLemmas.{seat, long}
+use Rattle.watched_literals.proofs.SeatLemmas.{seat, seated}
 
 -- for reading past the end
 abbrev pub no_step : Step
@@ -433,7 +433,7 @@ module _ (clauses : List (List Lit)) (entries : List Attached) (trail : Assigned
                     (next_of old.chains.nodes.items cursor.at) was.running.watching is last_within
                     here.node here.own moved_walk.0.linked untrue fresh
                     (λ d. (open_is d).contained) (open_is blank).differs
-                    (long clauses entries trail old cursor was some);
+                    (λ d. (seated clauses entries trail old cursor was some d).pair);
               };
               within = was.within;
               fell = was.fell;

@@ -2,7 +2,6 @@
 use Rattle.std.proofs.Common.{◌≡◌, ◌≢◌, ◌≤◌, ◌<◌, ◌+◌, ◌*◌, ◌/◌, ℕ, List, length, get_or, map, []}
 use Rattle.std.proofs.Common.{Some, None, sym, ap, subst, ◌∙◌, arith, inl, inr}
 use Rattle.std.specs.Prelude.{All, slice_get}
-use Rattle.std.proofs.lemmas.Bool.{cases_lt}
 use Rattle.std.proofs.lemmas.List.Elements.{All-contains}
 use Rattle.std.proofs.lemmas.Option.{get_or_from_slice_get, slice_get_within}
 use Rattle.clause_store.specs.declared.literal.Lit.{Lit}
@@ -16,7 +15,7 @@ use Rattle.watched_literals.specs.declared.tables.Tables.{Tables}
 use Rattle.watched_literals.specs.declared.chains.Node.{Node}
 use Rattle.watched_literals.specs.declared.cursor.Cursor.{Cursor}
 use Rattle.watched_literals.specs.Chains.{none, lit_of}
-use Rattle.watched_literals.specs.Watching.{IsPair, IsDone, IsRow, partner_of}
+use Rattle.watched_literals.specs.Watching.{IsDone, IsSeated, partner_of}
 use Rattle.watched_literals.specs.Walking.{IsWalking, IsSeat}
 use Rattle.watched_literals.proofs.KnownLemmas.{made_false, known_is}
 use Rattle.watched_literals.proofs.MovedLemmas.{side}
@@ -32,6 +31,18 @@ pub named_over : (vars : ℕ) (clauses : List (List Lit)) (at : ℕ) (clause : L
 named_over vars clauses at clause over is =
     subst (All (IsOver vars)) (get_or_from_slice_get clauses at clause clause is)
     (over at clause (slice_get_within clauses at clause is))
+
+-- the two literals of a clause the other way round
+turned : (known : List Followed) (lits : List Lit) (saved : ℕ) (one two : Lit)
+    → IsSeated known lits saved one two → IsSeated known lits saved two one
+turned known lits saved one two is = record {
+  pair = record {
+    one_here = is.pair.two_here;
+    two_here = is.pair.one_here;
+    differ = λ same. is.pair.differ (sym same);
+  };
+  binary = λ none_is k d within not_two not_one. is.binary none_is k d within not_one not_two;
+}
 
 module _ (clauses : List (List Lit)) (entries : List Attached) (trail : Assigned)
     (tables : Tables) (cursor : Cursor) (walking : IsWalking clauses entries trail tables cursor)
@@ -79,20 +90,16 @@ module _ (clauses : List (List Lit)) (entries : List Attached) (trail : Assigned
       omega (arith, node_within, walking.running.watching.nodes) in
       grind (arith, n)
 
-  row_is : (d : Attached)
-      → IsRow (get_or entries (cursor.at / 2) d).lits
+  -- its clause is watched at two literals
+  pub seated : (d : Attached)
+      → IsSeated (map as_followed trail.steps) (get_or entries (cursor.at / 2) d).lits
       (get_or tables.saved.items (cursor.at / 2) 0)
       (lit_of tables.chains.nodes.items (2 * (cursor.at / 2)))
       (lit_of tables.chains.nodes.items (2 * (cursor.at / 2) + 1))
-  row_is d = walking.running.watching.rows (cursor.at / 2) d row_within
-
-  -- its clause has two literals
-  pub long : (d : Attached) → 2 ≤ length (get_or entries (cursor.at / 2) d).lits
-  long d =
-      elim (cases_lt (length (get_or entries (cursor.at / 2) d).lits) 2) [
-        | inr enough ↦ enough
-        | inl few ↦
-            let none_is = (row_is d).short few in
+  seated d =
+      elim (walking.running.watching.rows (cursor.at / 2) d row_within) [
+        | inl is ↦ is
+        | inr none_is ↦
             absurd
             (not_zero
             (sym (ap (λ (l : Lit). l.0) own)
@@ -115,39 +122,45 @@ module _ (clauses : List (List Lit)) (entries : List Attached) (trail : Assigned
             omega (arith, p, row_within, walking.running.watching.nodes)
       ]
 
-  pair : (d : Attached)
-      → IsPair (get_or entries (cursor.at / 2) d).lits cursor.lit
+  -- the literals of the node and of the other one
+  both : (d : Attached)
+      → IsSeated (map as_followed trail.steps) (get_or entries (cursor.at / 2) d).lits
+      (get_or tables.saved.items (cursor.at / 2) 0) cursor.lit
       (lit_of tables.chains.nodes.items (partner_of cursor.at))
-  pair d =
-      let two = (row_is d).pair (long d) in
+  both d =
       elim (side cursor.at) [
         | inl even ↦
             let p : partner_of cursor.at ≡ 2 * (cursor.at / 2) + 1 = grind (arith, even) in
             let mine : lit_of tables.chains.nodes.items (2 * (cursor.at / 2)) ≡ cursor.lit =
             ap (lit_of tables.chains.nodes.items) (sym even) ∙ own in
             subst
-            (λ one. IsPair (get_or entries (cursor.at / 2) d).lits one
+            (λ one. IsSeated (map as_followed trail.steps)
+            (get_or entries (cursor.at / 2) d).lits
+            (get_or tables.saved.items (cursor.at / 2) 0) one
             (lit_of tables.chains.nodes.items (partner_of cursor.at))) mine
             (subst
-            (λ n. IsPair (get_or entries (cursor.at / 2) d).lits
+            (λ n. IsSeated (map as_followed trail.steps) (get_or entries (cursor.at / 2) d).lits
+            (get_or tables.saved.items (cursor.at / 2) 0)
             (lit_of tables.chains.nodes.items (2 * (cursor.at / 2)))
-            (lit_of tables.chains.nodes.items n)) (sym p) two)
+            (lit_of tables.chains.nodes.items n)) (sym p) (seated d))
         | inr odd ↦
             let p : partner_of cursor.at ≡ 2 * (cursor.at / 2) = grind (arith, odd) in
             let mine : lit_of tables.chains.nodes.items (2 * (cursor.at / 2) + 1) ≡ cursor.lit =
             ap (lit_of tables.chains.nodes.items) (sym odd) ∙ own in
             subst
-            (λ one. IsPair (get_or entries (cursor.at / 2) d).lits one
+            (λ one. IsSeated (map as_followed trail.steps)
+            (get_or entries (cursor.at / 2) d).lits
+            (get_or tables.saved.items (cursor.at / 2) 0) one
             (lit_of tables.chains.nodes.items (partner_of cursor.at))) mine
             (subst
-            (λ n. IsPair (get_or entries (cursor.at / 2) d).lits
+            (λ n. IsSeated (map as_followed trail.steps) (get_or entries (cursor.at / 2) d).lits
+            (get_or tables.saved.items (cursor.at / 2) 0)
             (lit_of tables.chains.nodes.items (2 * (cursor.at / 2) + 1))
             (lit_of tables.chains.nodes.items n)) (sym p)
-            (record {
-              one_here = two.two_here;
-              two_here = two.one_here;
-              differ = λ same. two.differ (sym same);
-            }))
+            (turned (map as_followed trail.steps) (get_or entries (cursor.at / 2) d).lits
+            (get_or tables.saved.items (cursor.at / 2) 0)
+            (lit_of tables.chains.nodes.items (2 * (cursor.at / 2)))
+            (lit_of tables.chains.nodes.items (2 * (cursor.at / 2) + 1)) (seated d)))
       ]
 
   named : (d : Attached)
@@ -172,15 +185,16 @@ module _ (clauses : List (List Lit)) (entries : List Attached) (trail : Assigned
     saved = omega (arith, row_within, walking.running.watching.saved);
     waits = omega (arith, row_within, walking.running.watching.waits);
     own = own;
+    is_trail = walking.running.is_trail;
     is_false =
         made_false trail cursor.place (as_followed no_step) cursor.lit walking.running.is_trail
         walking.within (ap (λ (it : Followed). it.lit) (walking.fell (as_followed no_step)));
     other_over =
         All-contains (IsOver trail.vars) (get_or entries (cursor.at / 2) blank).lits
         (lit_of tables.chains.nodes.items (partner_of cursor.at)) (over blank)
-        (pair blank).two_here;
-    pair = pair;
+        (both blank).pair.two_here;
+    pair = λ d. (both d).pair;
     named = named;
     lits_over = over;
-    binary = λ d is. (row_is d).binary is;
+    binary = λ d is. (both d).binary is;
   }

@@ -1,15 +1,15 @@
 -- What the look at the clause of a node says.
-use Rattle.std.proofs.Common.{◌≡◌, ◌≢◌, ◌<◌, ◌/◌, ℕ, List, length, get_or, Some, sym}
+use Rattle.std.proofs.Common.{◌≡◌, ◌≢◌, ◌<◌, ◌/◌, ℕ, List, length, get_or, map, Some, sym}
 use Rattle.std.proofs.Common.{ap, subst, ◌∙◌, arith, inl, inr}
 use Rattle.std.specs.Prelude.{All, Contains, slice_get}
-use Rattle.std.proofs.lemmas.Bool.{cases_eq}
-use Rattle.std.proofs.lemmas.List.{get_or_default}
+use Rattle.std.proofs.lemmas.List.{get_or_default, length-map}
 use Rattle.std.proofs.lemmas.Option.{same_Some, slice_get_within}
 use Rattle.clause_store.specs.declared.literal.Lit.{Lit}
 use Rattle.clause_store.specs.declared.literal.ClauseRef.{ClauseRef}
 use Rattle.clause_store.specs.declared.step.Step.{Step}
-use Rattle.clause_store.specs.Trail.{Assigned, IsReasonFor}
-use Rattle.clause_store.specs.Standing.{IsFalse}
+use Rattle.clause_store.specs.Clause.{negation}
+use Rattle.clause_store.specs.Trail.{Assigned, IsReasonFor, IsTrail}
+use Rattle.clause_store.specs.Standing.{Followed, IsFalse, as_followed}
 use Rattle.clause_store.proofs.LiteralLemmas.{cases_lit}
 use Rattle.propagator.specs.Watched.{Attached}
 use Rattle.watched_literals.specs.declared.tables.Tables.{Tables}
@@ -19,9 +19,10 @@ use Rattle.watched_literals.specs.declared.visit.Visit.TheVariants.{Stays, Moves
 use Rattle.watched_literals.specs.declared.visit.Visit.TheVariants.{IsFalse as IsFalseClause}
 use Rattle.watched_literals.specs.Chains.{none, lit_of, next_of}
 use Rattle.watched_literals.specs.Visits.{AreFalseBut, IsByOther, IsVisited}
-use Rattle.watched_literals.specs.Watching.{IsPair, partner_of}
+use Rattle.watched_literals.specs.Watching.{AreOthersFalse, IsTrueBy, partner_of}
 use Rattle.watched_literals.specs.Walking.{IsForced, IsSeat, IsSeen}
 use Rattle.watched_literals.proofs.ChainLemmas.{blank}
+use Rattle.watched_literals.proofs.KnownLemmas.{made_false}
 
 -- the literal of a node that was read
 pub read_lit : (nodes : List Node) (n m : ℕ) (node : Node) → m < length nodes → n ≡ m
@@ -30,49 +31,22 @@ read_lit nodes n m node within same is =
     ap (λ (it : Node). it.lit)
     (is ∙ ap (λ k. get_or nodes k node) same ∙ get_or_default nodes m node blank within)
 
--- of two literals of which one is false, all but the other are
-pub two_false : (steps : List Step) (clause : List Lit) (lit other : Lit)
-    → length clause ≡ 2 → IsPair clause lit other → IsFalse steps lit
-    → AreFalseBut steps other clause
-two_false steps clause lit other two pair is_false k d within differs =
-    elim (cases_eq k pair.one_here.0) [
-      | inl same ↦
-          subst (IsFalse steps)
-          (sym (ap (λ n. get_or clause n d) same
-          ∙ get_or_default clause pair.one_here.0 d lit pair.one_here.1
-          ∙ pair.one_here.2))
-          is_false
+-- a literal whose negation is true is false
+false_by : (trail : Assigned) (level : ℕ) (lit : Lit) → IsTrail trail
+    → IsTrueBy level (map as_followed trail.steps) (negation lit) → IsFalse trail.steps lit
+false_by trail level lit is (at, made, within, here, p) =
+    made_false trail at made lit is (omega (arith, within, length-map trail.steps as_followed))
+    (ap (λ (it : Followed). it.lit) here ∙ p.0)
+
+-- where all literals but two are false for good and one of the two is false, all but the other are
+others_false : (trail : Assigned) (clause : List Lit) (lit other : Lit) → IsTrail trail
+    → AreOthersFalse (map as_followed trail.steps) clause lit other → IsFalse trail.steps lit
+    → AreFalseBut trail.steps other clause
+others_false trail clause lit other is falses is_false k d within differs =
+    elim (cases_lit (get_or clause k d) lit) [
+      | inl same ↦ subst (IsFalse trail.steps) (sym same) is_false
       | inr not_lit ↦
-          elim (cases_eq k pair.two_here.0) [
-            | inl same ↦
-                absurd
-                (differs
-                (ap (λ n. get_or clause n d) same
-                ∙ get_or_default clause pair.two_here.0 d other pair.two_here.1
-                ∙ pair.two_here.2))
-            | inr not_other ↦
-                elim (cases_eq pair.one_here.0 pair.two_here.0) [
-                  | inl same ↦
-                      absurd
-                      (pair.differ
-                      (sym pair.one_here.2
-                      ∙ get_or_default clause pair.one_here.0 lit other pair.one_here.1
-                      ∙ ap (λ n. get_or clause n other) same
-                      ∙ pair.two_here.2))
-                  | inr apart ↦
-                      absurd
-                      (omega (
-                        arith,
-                        within,
-                        two,
-                        pair.one_here.1,
-                        pair.two_here.1,
-                        not_lit,
-                        not_other,
-                        apart,
-                      ))
-                ]
-          ]
+          false_by trail 0 (get_or clause k d) is (falses k d within not_lit differs)
     ]
 
 all_false : (steps : List Step) (clause : List Lit) (other : Lit) → AreFalseBut steps other clause
@@ -98,8 +72,8 @@ seen_binary clauses entries trail tables lit at level other visit seat other_is 
         → AreFalseBut trail.steps (lit_of tables.chains.nodes.items (partner_of at))
         (get_or entries (at / 2) d).lits
     falses d =
-        two_false trail.steps (get_or entries (at / 2) d).lits lit
-        (lit_of tables.chains.nodes.items (partner_of at)) (seat.binary d saved) (seat.pair d)
+        others_false trail (get_or entries (at / 2) d).lits lit
+        (lit_of tables.chains.nodes.items (partner_of at)) seat.is_trail (seat.binary d saved)
         seat.is_false
 
     go : (v : Visit)

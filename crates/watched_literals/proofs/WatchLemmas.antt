@@ -5,7 +5,7 @@ use Rattle.std.proofs.Common.{◌++◌, length, length-append, get_or, map, take
 use Rattle.std.proofs.Common.{ap, subst, ◌∙◌, arith, inl, inr}
 use Rattle.std.proofs.Common.{zero, suc, None}
 use Rattle.std.specs.Prelude.{Any, All, filter, nat_le}
-use Rattle.std.proofs.lemmas.Bool.{cases_lt, cases_Bool, le-leb, lt-leb, false≢true}
+use Rattle.std.proofs.lemmas.Bool.{cases_eq, cases_lt, cases_Bool, le-leb, lt-leb, false≢true}
 use Rattle.std.proofs.lemmas.List.{get_or_append_left, get_or_push, get_or-replicate}
 use Rattle.std.proofs.lemmas.List.{length-replicate, length-map, get_or-map, get_or_default}
 use Rattle.std.proofs.lemmas.List.{length-take, get_or-take}
@@ -20,9 +20,11 @@ use Rattle.propagator.specs.Watched.{Attached}
 use Rattle.watched_literals.specs.declared.tables.Tables.{Tables}
 use Rattle.watched_literals.specs.declared.choosing.Choice.{Choice}
 use Rattle.watched_literals.specs.Chains.{none, lit_of, AreLinked}
-use Rattle.watched_literals.specs.Rooms.{IsRoomier, IsPut}
-use Rattle.watched_literals.specs.Watching.{IsChoice, IsTrueBy, IsSettled}
-use Rattle.watched_literals.specs.Watching.{AreSettled, HoldsForGood, IsRow, AreWatching}
+use Rattle.watched_literals.specs.Rooms.{IsRoomier, IsPut, IsSame}
+use Rattle.watched_literals.specs.Watching.{AreNone, AreOthersFalse, AreSettled, AreWatching}
+use Rattle.watched_literals.specs.Watching.{HoldsForGood, IsChoice, IsPair, IsRow, IsSettled}
+use Rattle.watched_literals.specs.Watching.{IsTrueBy}
+use Rattle.watched_literals.proofs.KnownLemmas.{none_apart, row_maps}
 
 -- ---- opening
 
@@ -55,11 +57,78 @@ opened vars tables nodes heads saved waits = record {
   few = omega arith;
   rows = λ number d within. absurd (omega (arith, within));
   settled = λ number within. absurd (omega (arith, within));
-  shorts = λ number d within. absurd (omega (arith, within));
+  detached = λ number d within. absurd (omega (arith, within));
   reached = omega arith;
 }
 
+-- ---- want of memory
+
+-- where nothing changed but the room, what is watched stays so
+pub watching_same : (vars : ℕ) (entries : List Attached) (old new : Tables)
+    (known : List Followed) (next : ℕ) → AreWatching vars entries old known next
+    → IsSame old new → AreWatching vars entries new known next
+watching_same vars entries old new known next was is = record {
+  linked = rw (is.nodes, is.heads) was.linked;
+  heads = ap length is.heads ∙ was.heads;
+  nodes = ap length is.nodes ∙ was.nodes;
+  saved = ap length is.saved ∙ was.saved;
+  waits = ap length is.waits ∙ was.waits;
+  few = was.few;
+  rows = λ number d within. rw (is.nodes, is.saved) (was.rows number d within);
+  settled =
+      λ number within off. rw is.nodes
+      (was.settled number within (ap (λ waits. get_or waits number false) (sym is.waits) ∙ off));
+  detached =
+      λ number d within none_is off. was.detached number d within
+      (subst
+      (λ nodes. AreNone (lit_of nodes (2 * number)) (lit_of nodes (2 * number + 1))) is.nodes
+      none_is)
+      (ap (λ waits. get_or waits number false) (sym is.waits) ∙ off);
+  reached = was.reached;
+}
+
 -- ---- one clause more
+
+-- a clause of two literals has no others
+two_only : (known : List Followed) (clause : List Lit) (one two : Lit) → length clause ≡ 2
+    → IsPair clause one two → AreOthersFalse known clause one two
+two_only known clause one two count pair k d within not_one not_two =
+    absurd
+    (elim (cases_eq k pair.one_here.0) [
+      | inl same ↦
+          not_one
+          (ap (λ n. get_or clause n d) same
+          ∙ get_or_default clause pair.one_here.0 d one pair.one_here.1
+          ∙ pair.one_here.2)
+      | inr else_one ↦
+          elim (cases_eq k pair.two_here.0) [
+            | inl same ↦
+                not_two
+                (ap (λ n. get_or clause n d) same
+                ∙ get_or_default clause pair.two_here.0 d two pair.two_here.1
+                ∙ pair.two_here.2)
+            | inr else_two ↦
+                elim (cases_eq pair.one_here.0 pair.two_here.0) [
+                  | inl same ↦
+                      pair.differ
+                      (sym pair.one_here.2
+                      ∙ get_or_default clause pair.one_here.0 one two pair.one_here.1
+                      ∙ ap (λ n. get_or clause n two) same
+                      ∙ pair.two_here.2)
+                  | inr apart ↦
+                      omega (
+                        arith,
+                        within,
+                        count,
+                        pair.one_here.1,
+                        pair.two_here.1,
+                        else_one,
+                        else_two,
+                        apart,
+                      )
+                ]
+          ]
+    ])
 
 unsettled : (known : List Followed) (next : ℕ) (one two : Lit) → next ≡ 0
     → AreSettled known next one two
@@ -115,7 +184,7 @@ module _ (vars : ℕ) (entries : List Attached) (old mid new : Tables) (known : 
       ∙ get_or_push mid.saved.items is.place 0 (length entries) saved_mid
 
   old_row : (number : ℕ) (d : Attached) → number < length entries
-      → IsRow (get_or (entries ++ entry ∷ []) number d).lits (get_or new.saved.items number 0)
+      → IsRow known (get_or (entries ++ entry ∷ []) number d).lits (get_or new.saved.items number 0)
       (lit_of new.chains.nodes.items (2 * number))
       (lit_of new.chains.nodes.items (2 * number + 1))
   old_row number d within =
@@ -127,18 +196,28 @@ module _ (vars : ℕ) (entries : List Attached) (old mid new : Tables) (known : 
       )
       (was.rows number d within)
 
+  chosen_row : IsRow known entry.lits is.place choice.one choice.two
+  chosen_row =
+      elim (cases_lt (length entry.lits) 2) [
+        | inl short ↦ inr (chosen.short short)
+        | inr long ↦
+            let pair = chosen.pair long in
+            inl (record {
+              pair = pair;
+              binary =
+                  λ none_is. two_only known entry.lits choice.one choice.two (is.binary none_is)
+                  pair;
+            })
+      ]
+
   new_row : (d : Attached)
-      → IsRow (get_or (entries ++ entry ∷ []) (length entries) d).lits
+      → IsRow known (get_or (entries ++ entry ∷ []) (length entries) d).lits
       (get_or new.saved.items (length entries) 0)
       (lit_of new.chains.nodes.items (2 * length entries))
       (lit_of new.chains.nodes.items (2 * length entries + 1))
   new_row d =
       rw (get_or_push entries entry d (length entries) refl, saved_at, one_at, two_at)
-      (record {
-        pair = chosen.pair;
-        short = chosen.short;
-        binary = is.binary;
-      })
+      chosen_row
 
   old_settled : (number : ℕ) → number < length entries
       → get_or new.pending.waits number false ≡ false
@@ -151,27 +230,40 @@ module _ (vars : ℕ) (entries : List Attached) (old mid new : Tables) (known : 
       )
       (was.settled number within (sym (waits_before number within) ∙ off))
 
-  old_short : (number : ℕ) (d : Attached) → number < length entries
-      → length (get_or (entries ++ entry ∷ []) number d).lits < 2
+  old_good : (number : ℕ) (d : Attached) → number < length entries
+      → AreNone (lit_of new.chains.nodes.items (2 * number))
+      (lit_of new.chains.nodes.items (2 * number + 1))
       → get_or new.pending.waits number false ≡ false
       → HoldsForGood known (get_or (entries ++ entry ∷ []) number d).lits
-  old_short number d within short off =
+  old_good number d within none_is off =
       let same : get_or (entries ++ entry ∷ []) number d ≡ get_or entries number d =
       get_or_append_left entries (entry ∷ []) d number within in
       subst (λ (it : Attached). HoldsForGood known it.lits) (sym same)
-      (was.shorts number d within
-      (subst (λ (it : Attached). length it.lits < 2) same short)
+      (was.detached number d within
+      (subst (λ lit. AreNone lit (lit_of old.chains.nodes.items (2 * number + 1)))
+      (lit_before (2 * number) (omega (arith, within)))
+      (subst (AreNone (lit_of new.chains.nodes.items (2 * number)))
+      (lit_before (2 * number + 1) (omega (arith, within))) none_is))
       (sym (waits_before number within) ∙ off))
 
-  new_waits : (d : Attached) (number : ℕ) → number ≡ length entries
-      → length (get_or (entries ++ entry ∷ []) number d).lits < 2
+  new_waits : (number : ℕ) → number ≡ length entries
+      → AreNone (lit_of new.chains.nodes.items (2 * number))
+      (lit_of new.chains.nodes.items (2 * number + 1))
       → get_or new.pending.waits number false ≢ false
-  new_waits d number last short off =
-      let same : get_or (entries ++ entry ∷ []) number d ≡ entry =
-      get_or_push entries entry d number (sym last) in
-      false≢true
-      (sym off ∙ ap (λ n. get_or new.pending.waits n false) (last ∙ sym saved_mid)
-      ∙ is.wait.short (subst (λ (it : Attached). length it.lits < 2) same short))
+  new_waits number last none_is off =
+      let here : AreNone choice.one choice.two =
+      subst (λ lit. AreNone lit choice.two)
+      (ap (λ n. lit_of new.chains.nodes.items (2 * n)) last ∙ one_at)
+      (subst (AreNone (lit_of new.chains.nodes.items (2 * number)))
+      (ap (λ n. lit_of new.chains.nodes.items (2 * n + 1)) last ∙ two_at) none_is) in
+      elim (cases_lt (length entry.lits) 2) [
+        | inl short ↦
+            false≢true
+            (sym off ∙ ap (λ n. get_or new.pending.waits n false) (last ∙ sym saved_mid)
+            ∙ is.wait.short short)
+        | inr long ↦
+            none_apart entry.lits choice.one choice.two (chosen.pair long) here
+      ]
 
   at_count : (number : ℕ) → number < length (entries ++ entry ∷ []) → length entries ≤ number
       → number ≡ length entries
@@ -211,7 +303,7 @@ module _ (vars : ℕ) (entries : List Attached) (old mid new : Tables) (known : 
           | inl before ↦ old_row number d before
           | inr after ↦
               subst
-              (λ r. IsRow (get_or (entries ++ entry ∷ []) r d).lits (get_or new.saved.items r 0)
+              (λ r. IsRow known (get_or (entries ++ entry ∷ []) r d).lits (get_or new.saved.items r 0)
               (lit_of new.chains.nodes.items (2 * r))
               (lit_of new.chains.nodes.items (2 * r + 1)))
               (sym (at_count number within after)) (new_row d)
@@ -226,11 +318,10 @@ module _ (vars : ℕ) (entries : List Attached) (old mid new : Tables) (known : 
               (ap (λ r. get_or new.pending.waits r false)
               (saved_mid ∙ sym (at_count number within after)) ∙ off))
         ];
-    shorts =
-        λ number d within short off. elim (cases_lt number (length entries)) [
-          | inl before ↦ old_short number d before short off
-          | inr after ↦
-              absurd (new_waits d number (at_count number within after) short off)
+    detached =
+        λ number d within none_is off. elim (cases_lt number (length entries)) [
+          | inl before ↦ old_good number d before none_is off
+          | inr after ↦ absurd (new_waits number (at_count number within after) none_is off)
         ];
     reached = was.reached;
   }
@@ -363,7 +454,9 @@ module _ (trail : Assigned) (known : List Followed) (gone : HasGoneBack trail kn
     saved = watching.saved;
     waits = watching.waits;
     few = watching.few;
-    rows = watching.rows;
+    rows =
+        λ number d within. row_maps known (map as_followed trail.steps) _ _ _ _
+        (λ lit is. true_still 0 lit (omega arith) is) (watching.rows number d within);
     settled =
         λ number within off. let both = watching.settled number within off in
         record {
@@ -372,6 +465,8 @@ module _ (trail : Assigned) (known : List Followed) (gone : HasGoneBack trail kn
           second =
               settled_still next less _ _ watching.reached fewer left both.second;
         };
-    shorts = λ number d within short off. good_still _ (watching.shorts number d within short off);
+    detached =
+        λ number d within none_is off. good_still _
+        (watching.detached number d within none_is off);
     reached = omega (arith, left, length-map trail.steps as_followed);
   }

@@ -17,8 +17,8 @@ use Rattle.watched_literals.specs.declared.chains.Node.{Node}
 use Rattle.watched_literals.specs.declared.tables.Tables.{Tables}
 use Rattle.watched_literals.specs.Chains.{lit_of, code_of, AreLinked}
 use Rattle.watched_literals.specs.Watching.{IsTrueBy, IsSettled, AreSettled}
-use Rattle.watched_literals.specs.Watching.{HoldsForGood, AreWatching, IsDone, partner_of}
-use Rattle.watched_literals.proofs.KnownLemmas.{true_more}
+use Rattle.watched_literals.specs.Watching.{AreNone, AreWatching, HoldsForGood, IsDone, partner_of}
+use Rattle.watched_literals.proofs.KnownLemmas.{row_maps, true_more}
 
 -- ---- more assignments
 
@@ -55,15 +55,18 @@ watching_more vars entries tables steps added next was =
       saved = was.saved;
       waits = was.waits;
       few = was.few;
-      rows = was.rows;
+      rows =
+          λ row d within. row_maps (map as_followed steps) (map as_followed (steps ++ added)) _ _ _
+          _ (λ lit is. true_more steps added 0 lit is) (was.rows row d within);
       settled =
           λ row within off. let both = was.settled row within off in
           record {
             first = settled_more steps added next _ _ reached both.first;
             second = settled_more steps added next _ _ reached both.second;
           };
-      shorts =
-          λ row d within short off. good_more steps added _ (was.shorts row d within short off);
+      detached =
+          λ row d within none_is off. good_more steps added _
+          (was.detached row d within none_is off);
       reached =
           omega (
             arith,
@@ -81,6 +84,17 @@ done_more tables steps added level node is off =
     true_more steps added level (lit_of tables.chains.nodes.items (partner_of node)) (is off)
 
 -- ---- one clause more is pending
+
+-- a clause that is watched at no literal was so before
+none_before : (old new : Tables) → new.chains ≡ old.chains → (row : ℕ)
+    → AreNone (lit_of new.chains.nodes.items (2 * row))
+    (lit_of new.chains.nodes.items (2 * row + 1))
+    → AreNone (lit_of old.chains.nodes.items (2 * row))
+    (lit_of old.chains.nodes.items (2 * row + 1))
+none_before old new same row none_is =
+    subst
+    (λ chains. AreNone (lit_of chains.nodes.items (2 * row))
+    (lit_of chains.nodes.items (2 * row + 1))) same none_is
 
 waits_off : (waits : List Bool) (row other : ℕ) → row < length waits
     → get_or (set waits row true) other false ≡ false
@@ -121,18 +135,12 @@ module _ (vars : ℕ) (entries : List Attached) (old new : Tables) (known : List
     saved = ap (λ saved. length saved.items) is.saved ∙ was.saved;
     waits = ap length is.waits ∙ length-set old.pending.waits row true ∙ was.waits;
     few = was.few;
-    rows =
-        λ other d inside. let it = was.rows other d inside in
-        rw (is.chains, is.saved)
-        (record {
-          pair = it.pair;
-          short = it.short;
-          binary = it.binary;
-        });
+    rows = λ other d inside. rw (is.chains, is.saved) (was.rows other d inside);
     settled =
         λ other inside off. rw is.chains (was.settled other inside (off_before other off).1);
-    shorts =
-        λ other d inside short off. was.shorts other d inside short (off_before other off).1;
+    detached =
+        λ other d inside none_is off. was.detached other d inside
+        (none_before old new is.chains other none_is) (off_before other off).1;
     reached = was.reached;
   }
 
@@ -174,11 +182,21 @@ module _ (old new : Tables) (known : List Followed) (is : AreAlike old new) wher
     few = was.few;
     rows = λ row d inside. rw (is.chains, is.saved) (was.rows row d inside);
     settled = λ row inside off. rw is.chains (was.settled row inside (waits_alike row off));
-    shorts = λ row d inside short off. was.shorts row d inside short (waits_alike row off);
+    detached =
+        λ row d inside none_is off. was.detached row d inside
+        (none_before old new is.chains row none_is) (waits_alike row off);
     reached = was.reached;
   }
 
 -- ---- one clause less is pending
+
+-- the clause of a row has a literal that is true for good, if it is watched at none
+abbrev pub AreGood : List Followed → List Attached → Tables → ℕ → Type 0
+AreGood known entries tables row =
+    (d : Attached)
+    → AreNone (lit_of tables.chains.nodes.items (2 * row))
+    (lit_of tables.chains.nodes.items (2 * row + 1))
+    → HoldsForGood known (get_or entries row d).lits
 
 -- tables with nothing changed but that a clause isn't pending
 pub record IsUnmarked (row : ℕ) (old new : Tables) : Type 0 where
@@ -191,8 +209,7 @@ pub watching_unmarked : (vars : ℕ) (entries : List Attached) (old new : Tables
     → IsUnmarked row old new
     → AreSettled known next (lit_of old.chains.nodes.items (2 * row))
     (lit_of old.chains.nodes.items (2 * row + 1))
-    → ((d : Attached) → length (get_or entries row d).lits < 2
-    → HoldsForGood known (get_or entries row d).lits)
+    → AreGood known entries old row
     → AreWatching vars entries new known next
 watching_unmarked vars entries old new known next row was is settled good =
     record {
@@ -214,12 +231,18 @@ watching_unmarked vars entries old new known next row was is settled good =
                 (lit_of old.chains.nodes.items (2 * r + 1))) (sym same) settled
             | inr other ↦ was.settled number inside (off_else number other off)
           ]);
-      shorts =
-          λ number d inside short off. elim (cases_eq number row) [
+      detached =
+          λ number d inside none_is off. elim (cases_eq number row) [
             | inl same ↦
                 subst (λ r. HoldsForGood known (get_or entries r d).lits) (sym same)
-                (good d (subst (λ r. length (get_or entries r d).lits < 2) same short))
-            | inr other ↦ was.shorts number d inside short (off_else number other off)
+                (good d
+                (subst
+                (λ r. AreNone (lit_of old.chains.nodes.items (2 * r))
+                (lit_of old.chains.nodes.items (2 * r + 1))) same
+                (none_before old new is.chains number none_is)))
+            | inr other ↦
+                was.detached number d inside (none_before old new is.chains number none_is)
+                (off_else number other off)
           ];
       reached = was.reached;
     }
@@ -274,7 +297,7 @@ watching_next vars entries tables known next fell was inside fell_is done =
                 (ap (lit_of nodes) (partner_odd row))
                 (omega (arith, within, was.nodes)) (half_odd row) off both.second;
           };
-      shorts = was.shorts;
+      detached = was.detached;
       reached = omega (arith, inside);
     }
   where

@@ -5,3 +5,4 @@ pub mod Visits
 pub mod Watching
 pub mod Rooms
 pub mod Walking
+pub mod Laying

@@ -17,7 +17,8 @@ use Rattle.watched_literals.specs.declared.visit.Visit.TheVariants.{Stays, Moves
 use Rattle.watched_literals.specs.declared.visit.Visit.TheVariants.{IsFalse as IsFalseClause}
 use Rattle.watched_literals.specs.Chains.{none, lit_of, nodes_left, IsWalk}
 use Rattle.watched_literals.specs.Visits.{IsVisited, ForcesOther}
-use Rattle.watched_literals.specs.Watching.{AreSettled, AreWatching, HoldsForGood, IsDone, IsPair}
+use Rattle.watched_literals.specs.Watching.{AreNone, AreOthersFalse, AreSettled, AreWatching}
+use Rattle.watched_literals.specs.Watching.{HoldsForGood, IsDone, IsPair}
 use Rattle.watched_literals.specs.Watching.{IsSettled, IsTrueBy, partner_of}
 
 -- the attached clauses are of the store and are watched; the chains of the first `next` assignments
@@ -52,6 +53,7 @@ pub record IsSeat (clauses : List (List Lit)) (entries : List Attached) (trail :
   pub saved : at / 2 < length tables.saved.items
   pub waits : at / 2 < length tables.pending.waits
   pub own : lit_of tables.chains.nodes.items at ≡ lit
+  pub is_trail : IsTrail trail
   pub is_false : value_of trail.steps lit ≡ No
   pub other_over : IsOver trail.vars (lit_of tables.chains.nodes.items (partner_of at))
   pub pair :
@@ -64,7 +66,8 @@ pub record IsSeat (clauses : List (List Lit)) (entries : List Attached) (trail :
   pub lits_over : (d : Attached) → All (IsOver trail.vars) (get_or entries (at / 2) d).lits
   pub binary :
       (d : Attached) → get_or tables.saved.items (at / 2) 0 ≡ none
-      → length (get_or entries (at / 2) d).lits ≡ 2
+      → AreOthersFalse (map as_followed trail.steps) (get_or entries (at / 2) d).lits lit
+      (lit_of tables.chains.nodes.items (partner_of at))
 
 -- what becomes of the clause of a node
 abbrev pub IsSeen : List Attached → Assigned → Tables → ℕ → ℕ → Visit → Type 0
@@ -142,10 +145,10 @@ pub record IsQuietAt (clauses : List (List Lit)) (steps : List Step) (at : Claus
 abbrev pub SettlesAll : List Followed → Lit → Lit → Type 0
 SettlesAll known lit other = (next : ℕ) → IsSettled known next lit other
 
--- so for both watched literals of a clause, of which one literal is true for good if it is short
+-- so for both watched literals of a clause, of which a literal is true for good if there are none
 pub record IsSettledRow (known : List Followed) (lits : List Lit) (one two : Lit) : Type 0 where
   pub both : (next : ℕ) → AreSettled known next one two
-  pub good : length lits < 2 → HoldsForGood known lits
+  pub good : AreNone one two → HoldsForGood known lits
 
 -- the pending clause at a place of the stack was looked at, and the next look is at a place
 pub record HasLooked (entries : List Attached) (steps : List Step) (old new : List ℕ)

@@ -1,8 +1,9 @@
--- How the attached clauses are watched. Each clause by itself is pending, or each of its watched
--- literals isn't false by the assignments whose chains were walked, or the other one is true at a
--- level that isn't higher. No public clause cites this module.
-use Rattle.std.specs.Prelude.{◌≡◌, ◌≢◌, ◌≤◌, ◌<◌, ◌+◌, ◌*◌, ℕ, false, List, length}
-use Rattle.std.specs.Prelude.{◌-◌, ◌/◌, ◌%◌, ◌==◌, if◌then◌else◌, get_or, set, Any, Contains}
+-- How the attached clauses are watched. Each clause by itself is pending, or is watched at no literal
+-- and true at level 0, or each of its watched literals isn't false by the assignments whose chains
+-- were walked, or the other one is true at a level that isn't higher. No public clause cites this
+-- module.
+use Rattle.std.specs.Prelude.{◌≡◌, ◌≢◌, ◌≤◌, ◌<◌, ◌+◌, ◌*◌, ◌⊎◌, ℕ, false, List, length}
+use Rattle.std.specs.Prelude.{◌-◌, ◌/◌, ◌%◌, ◌==◌, if◌then◌else◌, get_or, set, All, Any, Contains}
 use Rattle.clause_store.specs.declared.literal.Lit.{Lit}
 use Rattle.clause_store.specs.Clause.{negation}
 use Rattle.clause_store.specs.Standing.{Followed}
@@ -46,11 +47,24 @@ pub record AreSettled (known : List Followed) (next : ℕ) (one two : Lit) : Typ
   pub first : IsSettled known next one two
   pub second : IsSettled known next two one
 
--- the literals of the nodes of a clause, and the place where the last look at it ended
-pub record IsRow (lits : List Lit) (saved : ℕ) (one two : Lit) : Type 0 where
-  pub pair : 2 ≤ length lits → IsPair lits one two
-  pub short : length lits < 2 → AreNone one two
-  pub binary : saved ≡ none → length lits ≡ 2
+-- an assignment of level 0 makes a literal false
+abbrev pub IsFalseForGood : List Followed → Lit → Type 0
+IsFalseForGood known lit = IsTrueBy 0 known (negation lit)
+
+-- so for all literals of a clause but two
+abbrev pub AreOthersFalse : List Followed → List Lit → Lit → Lit → Type 0
+AreOthersFalse known lits one two =
+    All (λ lit. lit ≢ one → lit ≢ two → IsFalseForGood known lit) lits
+
+-- a clause is watched at two of its literals; the mark says that all others are false for good
+pub record IsSeated (known : List Followed) (lits : List Lit) (saved : ℕ) (one two : Lit) :
+    Type 0 where
+  pub pair : IsPair lits one two
+  pub binary : saved ≡ none → AreOthersFalse known lits one two
+
+-- a clause is watched at two of its literals or at none
+abbrev pub IsRow : List Followed → List Lit → ℕ → Lit → Lit → Type 0
+IsRow known lits saved one two = IsSeated known lits saved one two ⊎ AreNone one two
 
 -- an assignment of level 0 makes a literal of a clause true
 abbrev pub HoldsForGood : List Followed → List Lit → Type 0
@@ -67,16 +81,17 @@ pub record AreWatching (vars : ℕ) (entries : List Attached) (tables : Tables)
   pub few : length entries ≤ 2147483647
   pub rows :
       (number : ℕ) (d : Attached) → number < length entries
-      → IsRow (get_or entries number d).lits (get_or tables.saved.items number 0)
+      → IsRow known (get_or entries number d).lits (get_or tables.saved.items number 0)
       (lit_of tables.chains.nodes.items (2 * number))
       (lit_of tables.chains.nodes.items (2 * number + 1))
   pub settled :
       (number : ℕ) → number < length entries → get_or tables.pending.waits number false ≡ false
       → AreSettled known next (lit_of tables.chains.nodes.items (2 * number))
       (lit_of tables.chains.nodes.items (2 * number + 1))
-  pub shorts :
+  pub detached :
       (number : ℕ) (d : Attached) → number < length entries
-      → length (get_or entries number d).lits < 2
+      → AreNone (lit_of tables.chains.nodes.items (2 * number))
+      (lit_of tables.chains.nodes.items (2 * number + 1))
       → get_or tables.pending.waits number false ≡ false
       → HoldsForGood known (get_or entries number d).lits
   pub reached : next ≤ length known

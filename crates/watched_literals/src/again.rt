@@ -11,7 +11,7 @@ ghost use Rattle.watched_literals.specs.Walking.{IsRunning, ArePendingQuiet, IsQ
 ghost use Rattle.watched_literals.specs.Walking.{IsSettledRow, HasLooked, SettlesAll};
 
 use crate::entry::Entry;
-use crate::settled::is_true_by;
+use crate::settled::{holds_for_good, is_true_by};
 use crate::standing::Standing;
 use crate::tables::Tables;
 use clause_store::{ClauseRef, Lit, Store, Trail, Value};
@@ -100,7 +100,8 @@ fn settle(
 fn is_settled(trail: &Trail, tables: &Tables, lits: &[Lit], row: usize) -> bool
     requires is_trail { IsTrail trail.now }
     requires nodes { 2 * row + 1 < length tables.now.chains.nodes.items }
-    requires row { IsRow lits.now (get_or tables.now.saved.items (row) 0)
+    requires row { IsRow (map as_followed trail.now.steps) lits.now
+        (get_or tables.now.saved.items (row) 0)
         (lit_of tables.now.chains.nodes.items (2 * row))
         (lit_of tables.now.chains.nodes.items (2 * row + 1)) }
     requires over { All (IsOver trail.now.vars) lits.now }
@@ -108,23 +109,12 @@ fn is_settled(trail: &Trail, tables: &Tables, lits: &[Lit], row: usize) -> bool
         (lit_of tables.now.chains.nodes.items (2 * row))
         (lit_of tables.now.chains.nodes.items (2 * row + 1)) }
 {
-    if lits.len() < 2 {
-        return holds_for_good(trail, lits);
-    }
     let one = tables.chains.nodes[2 * row].lit;
     let two = tables.chains.nodes[2 * row + 1].lit;
-    settles(trail, one, two) && settles(trail, two, one)
-}
-
-/// Whether an assignment of level 0 makes the literal of a clause of at most one literal true.
-fn holds_for_good(trail: &Trail, lits: &[Lit]) -> bool
-    requires { All (IsOver trail.now.vars) lits.now }
-    ensures { IsTrue result → HoldsForGood (map as_followed trail.now.steps) lits.now }
-{
-    match lits {
-        [lit] => is_true_by(trail, *lit, 0),
-        _ => false,
+    if one.0 == 0 {
+        return holds_for_good(trail, lits);
     }
+    settles(trail, one, two) && settles(trail, two, one)
 }
 
 /// Whether another literal is true at a level that isn't higher where a literal is false.

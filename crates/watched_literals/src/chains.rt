@@ -2,6 +2,7 @@
 ghost use Rattle.std.specs.Prelude.{◌≡◌, ◌≢◌, ◌≤◌, ◌<◌, ◌+◌, ◌++◌, ◌∷◌, [], length, get_or, set};
 ghost use Rattle.std.specs.Prelude.{vec_capacity, vec_len};
 ghost use Rattle.watched_literals.specs.Chains.{none, IsUnlinked};
+ghost use Rattle.watched_literals.specs.Laying.{AreCoded, AreEmpty, AreLinkedAnew};
 ghost use Rattle.watched_literals.specs.Rooms.{AreNodesPut};
 ghost use Rattle.watched_literals.specs.Watching.{partner_of};
 
@@ -67,6 +68,19 @@ impl Chains {
         self.heads[lit.0 as usize] = at;
     }
 
+    /// Builds the chains anew from the literals of the nodes.
+    pub fn link_all(&mut self)
+        requires few { length self.old.nodes.items ≤ none }
+        requires coded { AreCoded self.old.nodes.items self.old.heads.items }
+        ensures { AreLinkedAnew self.old self.new }
+    {
+        empty(&mut self.heads);
+        for at in 0..self.nodes.len() {
+            let lit = self.nodes[at].lit;
+            self.link(at as u32, lit);
+        }
+    }
+
     /// Takes the node after `last` out of the chain of a literal, or the first one where that is
     /// none. The node `next` follows it.
     pub fn unlink(&mut self, lit: Lit, last: u32, next: u32)
@@ -80,6 +94,16 @@ impl Chains {
         } else {
             self.nodes[last as usize].next = next;
         }
+    }
+}
+
+/// Empties all chains.
+fn empty(heads: &mut Vec<u32>)
+    ensures count { length heads.new.items ≡ length heads.old.items }
+    ensures empty { AreEmpty heads.new.items }
+{
+    for code in 0..heads.len() {
+        heads[code] = NONE;
     }
 }
 

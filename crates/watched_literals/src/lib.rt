@@ -7,6 +7,8 @@ mod chains;
 mod choosing;
 mod cursor;
 mod entry;
+mod laying;
+mod left;
 mod node_visit;
 mod pending;
 mod propagation;

@@ -15,8 +15,8 @@ use crate::tables::{BINARY, Tables};
 use crate::visit::{Visit, visit_clause, without_others};
 use clause_store::{ClauseRef, Lit, Store, Trail, Value};
 
-/// What becomes of the clause of the present node. A clause of two literals is settled without a
-/// look into the store.
+/// What becomes of the clause of the present node. One of which two literals are left is settled
+/// without a look into the store.
 pub fn visit_node(
     store: &Store,
     trail: &Trail,

@@ -1,10 +1,10 @@
 // Whether a literal is true at a level that isn't higher than another.
-ghost use Rattle.std.specs.Prelude.{◌≡◌, ◌↔◌, ◌≤◌, IsTrue, map};
+ghost use Rattle.std.specs.Prelude.{◌≡◌, ◌↔◌, ◌≤◌, All, IsTrue, map};
 ghost use Rattle.clause_store.specs.Clause.{IsOver};
 ghost use Rattle.clause_store.specs.Laws.{IsAssignedBy};
 ghost use Rattle.clause_store.specs.Standing.{as_followed};
 ghost use Rattle.clause_store.specs.Trail.{present_level, value_of};
-ghost use Rattle.watched_literals.specs.Watching.{IsTrueBy};
+ghost use Rattle.watched_literals.specs.Watching.{IsTrueBy, HoldsForGood};
 
 use clause_store::{Lit, Trail, Value};
 
@@ -36,4 +36,17 @@ fn is_assigned_by(trail: &Trail, lit: Lit, level: u32) -> bool
         Some(own) => own <= level,
         None => false,
     }
+}
+
+/// Whether an assignment of level 0 makes a literal of a clause true.
+pub fn holds_for_good(trail: &Trail, lits: &[Lit]) -> bool
+    requires { All (IsOver trail.now.vars) lits.now }
+    ensures { IsTrue result → HoldsForGood (map as_followed trail.now.steps) lits.now }
+{
+    for lit in lits {
+        if is_true_by(trail, *lit, 0) {
+            return true;
+        }
+    }
+    false
 }

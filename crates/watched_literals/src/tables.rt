@@ -1,17 +1,19 @@
 // What is kept for each clause beside its place in the store: its nodes, the place where the last
 // look at its literals ended, and whether it is pending.
-ghost use Rattle.std.specs.Prelude.{◌≡◌, ◌≢◌, ◌≤◌, ◌<◌, ◌+◌, ◌/◌, length, OnOk, OnErr};
+ghost use Rattle.std.specs.Prelude.{◌≡◌, ◌≢◌, ◌≤◌, ◌<◌, ◌+◌, ◌*◌, ◌/◌, length, OnOk, OnErr};
 ghost use Rattle.watched_literals.specs.Chains.{none};
 ghost use Rattle.watched_literals.specs.Watching.{IsMoved};
+ghost use Rattle.watched_literals.specs.Laying.{IsWritten, IsWrittenBy};
 ghost use Rattle.watched_literals.specs.Rooms.{HasRoom, IsRoomier, IsSame, IsPut, IsWaitPut};
 
-use crate::chains::Chains;
+use crate::chains::{Chains, NONE, Node};
 use crate::choosing::Choice;
+use crate::left::Left;
 use crate::pending::Pending;
 use clause_store::Lit;
 use item_list::NoMemory;
 
-/// The place that says that a clause has two literals.
+/// The place that says that all literals of a clause but the two watched ones are false for good.
 pub const BINARY: u32 = 4294967295;
 
 /// The tables of the attached clauses.
@@ -64,6 +66,44 @@ impl Tables {
         self.saved[at as usize / 2] = place;
         self.chains.unlink(lit, last, next);
         self.chains.link(at, to);
+    }
+
+    /// Watches a clause at what is left of it. Its nodes are in no chain then. Where fewer than two
+    /// literals are left, it becomes pending.
+    pub fn seat(&mut self, row: usize, left: Left)
+        requires nodes { 2 * row + 1 < length self.old.chains.nodes.items }
+        requires saved { row < length self.old.saved.items }
+        requires waits { row < length self.old.pending.waits }
+        requires fits { row < none }
+        ensures { IsWrittenBy row left self.old self.new }
+    {
+        match left {
+            Left::Open(one, two) => self.write(row, one, two, 0),
+            Left::Pair(one, two) => self.write(row, one, two, BINARY),
+            Left::True => self.write(row, Lit(0), Lit(0), 0),
+            Left::Few => {
+                self.write(row, Lit(0), Lit(0), 0);
+                self.pending.mark(row as u32);
+            }
+        }
+    }
+
+    /// Writes at which literals a clause is watched, and where the next look at it begins.
+    fn write(&mut self, row: usize, one: Lit, two: Lit, place: u32)
+        requires nodes { 2 * row + 1 < length self.old.chains.nodes.items }
+        requires saved { row < length self.old.saved.items }
+        ensures written { IsWritten row one two place self.old self.new }
+        ensures pending { self.new.pending ≡ self.old.pending }
+    {
+        self.chains.nodes[2 * row] = Node {
+            lit: one,
+            next: NONE,
+        };
+        self.chains.nodes[2 * row + 1] = Node {
+            lit: two,
+            next: NONE,
+        };
+        self.saved[row] = place;
     }
 }
 

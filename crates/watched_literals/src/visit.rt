@@ -66,12 +66,14 @@ pub fn without_others(trail: &Trail, other: Lit) -> Visit
 
 /// The first place from `from` up to `end` whose literal isn't false and isn't the other watched
 /// one, or `end`.
-fn place_to_watch(clause: &[Lit], trail: &Trail, other: Lit, from: usize, end: usize) -> usize
+pub fn place_to_watch(clause: &[Lit], trail: &Trail, other: Lit, from: usize, end: usize) -> usize
     requires order { from ≤ end }
     requires within { end ≤ length clause.now }
     requires over { All (IsOver trail.now.vars) clause.now }
     ensures found { result < end → IsOpenAt trail.now.steps other clause.now result }
     ensures none { end ≤ result → AreFalseWithin trail.now.steps other clause.now from end }
+    ensures before { AreFalseWithin trail.now.steps other clause.now from result }
+    ensures last { result ≤ end }
 {
     for at in from..end {
         let lit = clause[at];

@@ -1,6 +1,7 @@
-// The invariant speaks of each clause by itself: it is pending, or each of its two watched literals
-// isn't false, or is false by an assignment whose chain wasn't walked yet, or is false while the
-// other one is true at a level that isn't higher. So no going back of the trail can break it.
+// The invariant speaks of each clause by itself: it is pending, or is watched at no literal and true
+// at level 0, or each of its two watched literals isn't false, or is false by an assignment whose
+// chain wasn't walked yet, or is false while the other one is true at a level that isn't higher. So
+// no going back of the trail can break it, as none undoes level 0.
 ghost use Rattle.std.specs.Prelude.{◌≡◌, ◌≤◌, ◌<◌, ◌^◌, [], length, IfOk, OnErr, IfNone, IfSome};
 ghost use Rattle.clause_store.specs.Clause.{AreOver};
 ghost use Rattle.clause_store.specs.Standing.{AreFollowed, HasGoneBack, IsConflict};
@@ -10,6 +11,7 @@ ghost use Rattle.propagator.specs.Fixpoint.{IsFixpoint, Extends};
 use crate::chains::{Chains, NONE};
 use crate::choosing::choose;
 use crate::entry::Entry;
+use crate::laying::{Layout, lay_out_if_due};
 use crate::pending::Pending;
 use crate::run::run;
 use crate::tables::Tables;
@@ -32,6 +34,7 @@ pub struct Watches {
     known: Snapshot<Trail>,
     next: usize,
     looked: u64,
+    layout: Layout,
 }
 
 impl Model for Watches {
@@ -76,6 +79,10 @@ impl Watches {
             known: Snapshot::of(&trail),
             next: 0,
             looked: 0,
+            layout: Layout {
+                assigned: 0,
+                looked: 0,
+            },
         })
     }
 
@@ -138,6 +145,17 @@ impl Watches {
             &mut self.looked,
             &mut self.next,
         );
+        if found.is_none() {
+            lay_out_if_due(
+                store,
+                trail,
+                self.entries.as_slice(),
+                &mut self.tables,
+                &mut self.layout,
+                self.looked,
+                self.next,
+            );
+        }
         self.known = Snapshot::of(trail);
         found
     }

@@ -7,3 +7,5 @@ pub mod RoundLemmas
 pub mod AskedLemmas
 pub mod DeskLemmas
 pub mod PartLemmas
+pub mod FactLemmas
+pub mod LinkLemmas

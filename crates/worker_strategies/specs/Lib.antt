@@ -5,4 +5,6 @@ pub mod Testing
 pub mod Working
 pub mod Rounds
 pub mod Chunks
+pub mod Links
+pub mod Facts
 pub mod Laws

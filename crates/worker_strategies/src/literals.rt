@@ -31,6 +31,21 @@ pub fn test_literals(
     Ok(lits)
 }
 
+/// The test literals of all candidates, in their order.
+pub(crate) fn all_test_literals(
+    alloc: Global,
+    normal: &Normal,
+    mode: Mode,
+) -> Result<Clause, NoMemory>
+    requires { IsNormal normal.now }
+{
+    let mut lits = Clause::open();
+    for before in 0..normal.names.len() as u32 {
+        lits.push(alloc, test_literal(normal, mode, before + 1))?;
+    }
+    Ok(lits)
+}
+
 /// The candidates whose test literals are in a clause, the first one for each literal.
 pub fn named_in(
     alloc: Global,

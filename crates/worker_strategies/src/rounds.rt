@@ -3,6 +3,7 @@ ghost use Rattle.std.specs.Prelude.{◌≡◌, ◌≢◌, ◌≤◌, ◌<◌, �
 ghost use Rattle.std.specs.Prelude.{OnOk, false, length, true};
 ghost use Rattle.normal_program.specs.Clauses.{base_clauses};
 ghost use Rattle.normal_program.specs.Limit.{IsNormal};
+ghost use Rattle.coherence_test.specs.Asked.{IsRefuted};
 ghost use Rattle.coherence_test.specs.Testing.{opened};
 ghost use Rattle.worker_jobs.specs.Job.{IsJobOver};
 ghost use Rattle.worker_strategies.specs.Disjunction.{disjunction_for};
@@ -19,8 +20,9 @@ use crate::job_test::{test_coherence, test_job};
 use crate::jobs::{is_same, literal_for};
 use crate::kept::{Begun, Kept};
 use crate::laws::round_is;
+use crate::literals::all_test_literals;
 use crate::outcome::Outcome;
-use clause_store::{Budget, Store, Units};
+use clause_store::{Budget, Lit, Store, Units};
 use coherence_test::Tester;
 use completion::complete;
 use ground_program::{Mode, Set};
@@ -114,6 +116,18 @@ impl<'a> Rounds<'a> {
         self.counted = budget.used() - before;
         let gain = self.end(alloc, job, budget, outcome)?;
         Ok(gain)
+    }
+
+    /// The literal that the assignment of the main tester at a place makes false, where that is one
+    /// of level 0. No answer set makes it true, if it is of an atom or a body.
+    pub(crate) fn refuted_at(&self, place: u32) -> Option<Lit>
+        requires { IsReady self.now }
+        ensures { IfSome result (IsRefuted self.now.normal) }
+    {
+        match &self.main {
+            Some(tester) => tester.refuted_at(place),
+            None => None,
+        }
     }
 
     /// Takes up the kept test where it has this job, or else drops it and begins one.
@@ -272,7 +286,7 @@ impl<'a> Rounds<'a> {
             None => {
                 let tester = self.new_main(alloc)?;
                 put(&mut self.main, Some(tester));
-                Ok(())
+                self.seek_all(alloc)
             }
         }
     }
@@ -285,6 +299,20 @@ impl<'a> Rounds<'a> {
         match &self.first {
             Some(first) => Tester::open_after(alloc, &self.completed, first),
             None => Tester::open_over(alloc, self.normal, &self.completed),
+        }
+    }
+
+    /// Lets the main tester seek the test literals of all candidates, but for those that the tester
+    /// of coherence made true.
+    fn seek_all(&mut self, alloc: Global) -> Result<(), NoMemory>
+        requires { IsNormal self.old.normal }
+        ensures { self.new ≡ self.old }
+    {
+        let lits = all_test_literals(alloc, self.normal, self.mode)?;
+        match (&mut self.main, &self.first) {
+            (None, _) => Ok(()),
+            (Some(main), Some(first)) => main.seek(alloc, lits.as_slice(), Some(first)),
+            (Some(main), None) => main.seek(alloc, lits.as_slice(), None),
         }
     }
 

@@ -3,9 +3,13 @@ ghost use Rattle.std.specs.Prelude.{◌≡◌, ◌≢◌, ◌≤◌, IfOk, false
 ghost use Rattle.normal_program.specs.Limit.{IsNormal};
 ghost use Rattle.worker_jobs.specs.Gain.{IsNothing, IsTrueGain};
 ghost use Rattle.worker_jobs.specs.Job.{IsJobOver};
+ghost use Rattle.worker_strategies.specs.Facts.{AreFactsOf};
+ghost use Rattle.worker_strategies.specs.Laws.{IsRound};
+ghost use Rattle.worker_strategies.specs.Rounds.{IsReady, working};
 ghost use Rattle.worker_strategies.specs.Working.{HasBegun, HasRounded, HasSelectorFor};
 ghost use Rattle.worker_strategies.specs.Working.{IsSameWorker, hired};
 
+use crate::facts::{Facts, complete};
 use crate::gains::nothing;
 use crate::rounds::Rounds;
 use ground_program::Mode;
@@ -20,10 +24,12 @@ use worker_jobs::{Gain, Job, RoundEnd};
 #[derive(Drop)]
 pub struct Worker<'a> {
     rounds: Rounds<'a>,
+    facts: Option<Facts<'a>>,
     dead: bool,
 }
 
 impl<'a> Model for Worker<'a> {
+    ghost use Rattle.worker_strategies.specs.Facts.{AreFactsOf};
     ghost use Rattle.worker_strategies.specs.Working.{Working};
     ghost use Rattle.worker_strategies.specs.Rounds.{IsAtWork, working};
 
@@ -31,7 +37,8 @@ impl<'a> Model for Worker<'a> {
 
     ghost view = { λ it. working it.rounds it.dead };
 
-    ghost invariant = { λ it. IsAtWork it.rounds it.dead };
+    ghost invariant = { λ it.
+        IsAtWork it.rounds it.dead × AreFactsOf it.rounds.normal it.rounds.mode it.facts };
 }
 
 impl<'a> Worker<'a> {
@@ -48,9 +55,11 @@ impl<'a> Worker<'a> {
         requires some { 1 ≤ budget }
         ensures { IfOk result (λ it. it ≡ hired normal.now mode number budget) }
     {
+        let facts = Facts::open(alloc, normal, mode)?;
         let rounds = Rounds::open(alloc, normal, mode, number, budget)?;
         Ok(Worker {
             rounds,
+            facts,
             dead: false,
         })
     }
@@ -74,7 +83,7 @@ impl<'a> Worker<'a> {
             return nothing(RoundEnd::NoMemory);
         }
         self.dead = true;
-        match self.rounds.round(alloc, job, slice) {
+        match work(alloc, &mut self.rounds, &mut self.facts, job, slice) {
             Ok(gain) => {
                 self.dead = false;
                 gain
@@ -91,4 +100,26 @@ impl<'a> Worker<'a> {
     {
         let _ = &self.dead;
     }
+}
+
+/// One round, and what comes of it by facts. An error says that there was no memory.
+fn work(
+    alloc: Global,
+    rounds: &mut Rounds<'_>,
+    facts: &mut Option<Facts<'_>>,
+    job: &Job,
+    slice: u32,
+) -> Result<Gain, NoMemory>
+    requires ready { IsReady rounds.old }
+    requires job { IsJobOver rounds.old.normal.names job.now }
+    requires selector { HasSelectorFor (working rounds.old false) job.now }
+    requires some { 1 ≤ slice }
+    requires facts { AreFactsOf rounds.old.normal rounds.old.mode facts.old }
+    ensures round { IfOk result (IsRound rounds.old rounds.new job.now slice) }
+    ensures same { IsSameWorker (working rounds.old false) (working rounds.new false) }
+    ensures facts { AreFactsOf rounds.new.normal rounds.new.mode facts.new }
+{
+    let mut gain = rounds.round(alloc, job, slice)?;
+    complete(alloc, facts, rounds, &mut gain)?;
+    Ok(gain)
 }

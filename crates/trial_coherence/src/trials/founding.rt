@@ -63,13 +63,14 @@ fn walks(
     requires { IsOpen scene.old.normal scene.old.trail scene.old.founding }
     ensures { IsOpen scene.new.normal scene.new.trail scene.new.founding }
 {
-    scene.forget();
+    scene.go_back(0);
     let mut code = 0;
     for _ in 0..10u32 {
         if !is_right_after(alloc, scene, answers, code)? {
             return Ok(false);
         }
         code = draws.up_to(31);
+        scene.go_back(draws.up_to(8));
     }
     Ok(true)
 }

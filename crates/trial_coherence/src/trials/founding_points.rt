@@ -130,7 +130,7 @@ fn bits_of(atoms: &[u32]) -> u32 {
 }
 
 /// Makes literals true, by their codes.
-fn assume_all(scene: &mut FoundingScene, codes: &[u32])
+pub fn assume_all(scene: &mut FoundingScene, codes: &[u32])
     requires { IsOpen scene.old.normal scene.old.trail scene.old.founding }
     ensures { IsOpen scene.new.normal scene.new.trail scene.new.founding }
 {

@@ -47,12 +47,28 @@ impl FoundingScene {
         }
     }
 
-    /// Takes everything back.
-    pub fn forget(&mut self)
+    /// Goes back to a level, if the trail is above it.
+    pub fn go_back(&mut self, level: u32)
         requires { IsOpen self.old.normal self.old.trail self.old.founding }
         ensures { IsOpen self.new.normal self.new.trail self.new.founding }
     {
-        self.trail.back_to(0);
+        if level < self.trail.level() {
+            self.trail.back_to(level);
+            self.founding.undo(&self.trail);
+        }
+    }
+
+    /// Whether founding from nothing finds the same.
+    pub fn finds_the_same_anew(&mut self, alloc: Global) -> Result<bool, NoMemory>
+        requires { IsOpen self.old.normal self.old.trail self.old.founding }
+        ensures { IsOpen self.new.normal self.new.trail self.new.founding }
+    {
+        let mut fresh = Unfounded::open(alloc, &self.normal)?;
+        let anew = fresh.find(alloc, &self.normal, &self.trail, &mut self.clause)?;
+        let kept = self
+            .founding
+            .find(alloc, &self.normal, &self.trail, &mut self.clause)?;
+        Ok(anew == kept)
     }
 
     /// Whether what is found is what the definition says, and a clause can force something and

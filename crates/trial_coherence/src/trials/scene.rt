@@ -199,6 +199,43 @@ impl<'a> Scene<'a> {
         Ok(units.len() == limit as usize && self.is_inside(alloc, asked, set, units)?)
     }
 
+    /// Whether a test with an unused budget of this limit is spent inside a set. None where the
+    /// answer is wrong, or the question may not be asked.
+    pub fn is_spent_inside(
+        &mut self,
+        alloc: Global,
+        asked: &Asked,
+        limit: u32,
+    ) -> Result<Option<bool>, NoMemory>
+        requires ready { IsReady self.old.program.now self.old.normal.now self.old.tester }
+        requires some { 1 ≤ limit }
+    {
+        if !self.may_ask(asked) {
+            return Ok(None);
+        }
+        let mut budget = Budget::new(limit);
+        let tested = self.tester.test(alloc, asked, &mut budget, limit);
+        self.judge_stop(alloc, asked, limit, &tested)
+    }
+
+    /// Whether an answer is rightly spent inside a set, or right in another way.
+    fn judge_stop(
+        &self,
+        alloc: Global,
+        asked: &Asked,
+        limit: u32,
+        tested: &Tested,
+    ) -> Result<Option<bool>, NoMemory>
+        requires { IsReady self.now.program.now self.now.normal.now self.now.tester }
+    {
+        let Tested::SpentInside { set, units } = tested else {
+            let right = self.is_right(alloc, asked, tested)?;
+            return Ok(if right { Some(false) } else { None });
+        };
+        let right = units.len() == limit as usize && self.is_inside(alloc, asked, set, units)?;
+        Ok(if right { Some(true) } else { None })
+    }
+
     /// Whether a set meets what was asked, and a test inside it is spent on these units.
     fn is_inside(
         &self,

@@ -9,9 +9,8 @@ pub struct Stops {
     /// Which budgets were spent and which slices were used up so, each number by its bit.
     pub budgets: u32,
     pub slices: u32,
-    /// SpentInside, and how often of that with a budget of 1.
+    /// SpentInside.
     pub inside: u32,
-    pub inside_at_one: u32,
 }
 
 impl Stops {
@@ -21,7 +20,6 @@ impl Stops {
             budgets: 0,
             slices: 0,
             inside: 0,
-            inside_at_one: 0,
         }
     }
 
@@ -36,15 +34,8 @@ impl Stops {
                 self.outside = self.outside.saturating_add(1);
                 self.slices |= 1 << (slice % 32);
             }
-            Tested::SpentInside { .. } => self.count_inside(limit),
+            Tested::SpentInside { .. } => self.inside = self.inside.saturating_add(1),
             Tested::Found(_) | Tested::Core(_) | Tested::NoMemory => {}
-        }
-    }
-
-    fn count_inside(&mut self, limit: u32) {
-        self.inside = self.inside.saturating_add(1);
-        if limit == 1 {
-            self.inside_at_one = self.inside_at_one.saturating_add(1);
         }
     }
 
@@ -53,7 +44,6 @@ impl Stops {
         self.budgets |= other.budgets;
         self.slices |= other.slices;
         self.inside = self.inside.saturating_add(other.inside);
-        self.inside_at_one = self.inside_at_one.saturating_add(other.inside_at_one);
     }
 
     /// Whether budgets of 1, 2 and 3 were spent, and slices of 1 and of 2 were used up.

@@ -49,12 +49,20 @@ impl Scene {
         requires { IsReady self.old.store self.old.trail self.old.watches }
         ensures { IsReady self.new.store self.new.trail self.new.watches }
     {
+        self.decide_alone(lit);
+        self.propagate()
+    }
+
+    /// Decides a literal if it is unset.
+    pub fn decide_alone(&mut self, lit: Lit)
+        requires { IsReady self.old.store self.old.trail self.old.watches }
+        ensures { IsReady self.new.store self.new.trail self.new.watches }
+    {
         if self.trail.has(lit) {
             if let Value::Unset = self.trail.value(lit) {
                 self.trail.decide(lit);
             }
         }
-        self.propagate()
     }
 
     /// Propagates.

@@ -1,5 +1,5 @@
 use Rattle.std.proofs.Common.{◌∙◌, ◌++◌, ◌∷◌, [], arith, ap, false}
-use Rattle.coherence_test.proofs.TotalLemmas.{first_value, next_value}
+use Rattle.kept_minimality.proofs.TotalLemmas.{first_value, next_value}
 use Rattle.coherence_test.proofs.telling.set_on.Goals as goal
 
 pub loop-atom-init : goal.loop-atom-init

@@ -1,14 +1,26 @@
 use Rattle.std.proofs.Common.{◌∙◌, ap, subst, sym, arith, false}
 use Rattle.std.proofs.lemmas.List.Elements.{All-contains_itself, All-nil}
-use Rattle.clause_store.specs.Clause.{Meets}
+use Rattle.clause_store.specs.Clause.{AreOver, Meets}
 use Rattle.clause_store.specs.Laws.{AreMoreClauses}
 use Rattle.normal_program.specs.Clauses.{base_clauses}
+use Rattle.normal_program.specs.Normal.{greatest_body_var}
 use Rattle.short_clauses.specs.Shareable.{IsShareable}
 use Rattle.coherence_test.specs.AnswerSets.{ExtendsAnswerSet}
 use Rattle.coherence_test.specs.Sharing.{AreShareable}
 use Rattle.coherence_test.specs.Testing.{IsKept}
 use Rattle.coherence_test.proofs.SoundLemmas.{base_meets, open_sound}
 use Rattle.coherence_test.proofs.tester.Tester.over.Goals as goal
+
+pub open-requires-2-clause-over : goal.open-requires-2-clause-over
+open-requires-2-clause-over c k d within k' d' within' =
+    let normal = c.args.normal.now in
+    let over =
+    subst (AreOver (greatest_body_var normal)) (sym c.requires.completed)
+    (c.base_clauses_are_over_atoms_and_bodies.ensures normal c.requires.normal) in
+    let at = over k d within k' d' within' in
+    let last = at.last in
+    let vars = c.variables-vars.ensures in
+    record { first = at.first; last = omega (arith, last, vars) }
 
 pub open-requires-2-clause-holds : goal.open-requires-2-clause-holds
 open-requires-2-clause-holds c values model =

@@ -7,4 +7,4 @@ pub returns-clause-begun : goal.returns-clause-begun
 returns-clause-begun c alive =
     subst HasBegun c.self.view_is
     (has_begun c.self.inside.rounds c.self.inside.dead
-    (c.self.invariant.ready (ap (λ it. it.dead) c.self.view_is ∙ alive)))
+    (c.self.invariant.0.ready (ap (λ it. it.dead) c.self.view_is ∙ alive)))

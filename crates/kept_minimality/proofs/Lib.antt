@@ -1,0 +1,9 @@
+pub mod TotalLemmas
+pub mod QuietLemmas
+pub mod ModelLemmas
+pub mod TheoryLemmas
+pub mod AssumedLemmas
+pub mod FreeLemmas
+pub mod PartLemmas
+pub mod AnswerLemmas
+pub mod SearchLemmas

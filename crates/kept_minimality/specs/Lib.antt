@@ -1,0 +1,4 @@
+pub mod Total
+pub mod Pairing
+pub mod Kept
+pub mod Asking
