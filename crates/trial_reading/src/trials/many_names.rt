@@ -13,7 +13,7 @@ const ROOM: usize = 8192;
 struct Row {
     mode: &'static str,
     facts: bool,
-    count: u64,
+    count: u32,
     at_once: bool,
 }
 
@@ -61,15 +61,15 @@ fn write_program(row: &Row, sink: &mut SteadySink) -> Result<(), WriteFault> {
         write_facts(row.count, sink)?;
     }
     write_bytes(b"0\n", sink)?;
-    for atom in 1..row.count + 1 {
+    for atom in 1..u64::from(row.count) + 1 {
         write_number(atom, sink)?;
         write_bytes(b" f\n", sink)?;
     }
     write_bytes(b"0\nB+\n0\nB-\n0\n1\n", sink)
 }
 
-fn write_facts(count: u64, sink: &mut SteadySink) -> Result<(), WriteFault> {
-    for atom in 1..count + 1 {
+fn write_facts(count: u32, sink: &mut SteadySink) -> Result<(), WriteFault> {
+    for atom in 1..u64::from(count) + 1 {
         write_bytes(b"1 ", sink)?;
         write_number(atom, sink)?;
         write_bytes(b" 0 0\n", sink)?;
@@ -80,14 +80,14 @@ fn write_facts(count: u64, sink: &mut SteadySink) -> Result<(), WriteFault> {
 // The report: the answer set, and the candidates with one line with sizes or with many.
 fn write_report(row: &Row, sink: &mut SteadySink) -> Result<(), WriteFault> {
     write_answer(row, sink)?;
-    for cand in 1..row.count + 1 {
+    for cand in 1..u64::from(row.count) + 1 {
         write_settled(row, cand, sink)?;
         if !row.at_once {
             write_sizes(row, cand, sink)?;
         }
     }
     if row.at_once {
-        write_sizes(row, row.count, sink)?;
+        write_sizes(row, u64::from(row.count), sink)?;
     }
     write_bytes(b"COMPLETE\n", sink)
 }
@@ -95,7 +95,7 @@ fn write_report(row: &Row, sink: &mut SteadySink) -> Result<(), WriteFault> {
 fn write_answer(row: &Row, sink: &mut SteadySink) -> Result<(), WriteFault> {
     write_bytes(b"ANSWER 1", sink)?;
     if row.facts {
-        for atom in 1..row.count + 1 {
+        for atom in 1..u64::from(row.count) + 1 {
             write_number_after(b' ', atom, sink)?;
         }
     }
@@ -115,10 +115,11 @@ fn write_settled(row: &Row, cand: u64, sink: &mut SteadySink) -> Result<(), Writ
 
 // The sizes once so many candidates are settled.
 fn write_sizes(row: &Row, settled: u64, sink: &mut SteadySink) -> Result<(), WriteFault> {
+    let count = u64::from(row.count);
     let (lower, upper) = if row.facts {
-        (settled, row.count)
+        (settled, count)
     } else {
-        (0, row.count.saturating_sub(settled))
+        (0, count.saturating_sub(settled))
     };
     write_bytes(b"PAIR ", sink)?;
     write_number_ended(lower, b' ', sink)?;
