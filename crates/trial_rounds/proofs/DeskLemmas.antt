@@ -24,8 +24,8 @@ owed_then old new jobs one given =
     let few : length new.workers ≡ 1 = given.same ∙ one in
     let job : Job = get_or jobs 0 Idle in
     let had : HasJob old (only old) job (only new) =
-        given.had 0 (only old) (only new) job (first_is old.workers newcomer one)
-        (first_is jobs Idle (given.given.count ∙ one)) (first_is new.workers newcomer few) in
+    given.had 0 (only old) (only new) job (first_is old.workers newcomer one)
+    (first_is jobs Idle (given.given.count ∙ one)) (first_is new.workers newcomer few) in
     record {
       known = record { first = omega arith; last = omega (arith, few) };
       owed = owed_had old new job had;

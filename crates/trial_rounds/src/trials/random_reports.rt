@@ -1,6 +1,7 @@
 // Reports on random programs are legal by the definition, with every strategy, budget and slice.
 ghost use Rattle.std.specs.Prelude.{◌<◌};
 ghost use Rattle.ground_program.specs.Program.{IsProgram};
+ghost use Rattle.run_words.specs.Words.{AreSettings, IsAlone};
 
 use crate::trials::report_rules::{Ending, Query};
 use crate::trials::runs::{Edges, SETTINGS, lines_of, run_over, settings_of, text_of};
@@ -81,7 +82,11 @@ fn ending_of(
     truth: &Truth,
     text: &[u8],
     settings: &Settings,
-) -> Result<Option<Ending>, NoMemory> {
+) -> Result<Option<Ending>, NoMemory>
+    requires program { IsProgram program.now }
+    requires settings { AreSettings settings.now }
+    requires alone { IsAlone settings.now }
+{
     let run = run_over(alloc, text, settings, Edges::steady(alloc, 100))?;
     let Some(lines) = lines_of(alloc, program, run.text.as_slice())? else {
         return Ok(None);

@@ -6,5 +6,5 @@ pub invariant_of-result : goal.invariant_of-result
 invariant_of-result c = (
   c.requires,
   ap (λ (it : Testing). it.normal) c.in_ok-first.ensures,
-  ap (λ (it : Testing). it.normal) c.in_ok-second.ensures
+  ap (λ (it : Testing). it.normal) c.in_ok-second.ensures,
 )
