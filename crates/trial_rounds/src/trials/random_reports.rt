@@ -4,7 +4,7 @@ ghost use Rattle.ground_program.specs.Program.{IsProgram};
 ghost use Rattle.run_words.specs.Words.{AreSettings, IsAlone};
 
 use crate::trials::report_rules::{Ending, Query};
-use crate::trials::runs::{Edges, SETTINGS, lines_of, run_over, settings_of, text_of};
+use crate::trials::runs::{Edges, lines_of, run_over, settings_of, text_of};
 use crate::trials::truth::Truth;
 use ground_program::{Kind, Program};
 use item_list::NoMemory;

@@ -17,10 +17,7 @@ use worker_jobs::Strategy;
 /// More bytes than a report on a small program has.
 pub const ROOM: usize = 8192;
 
-/// How many settings there are.
-pub const SETTINGS: u32 = 96;
-
-/// One of the settings: two modes, six strategies, four budgets, two slices.
+/// One of 96 settings, counted around: two modes, six strategies, four budgets, two slices.
 pub fn settings_of(number: u32) -> Settings
     ensures settings { AreSettings result }
     ensures alone { IsAlone result }
